@@ -1,0 +1,4 @@
+pub mod CrcLemmas
+pub mod HistoryLemmas
+pub mod OrderLemmas
+pub mod SizesLemmas

@@ -1,0 +1,7 @@
+use Rattle.std.proofs.Common.{refl}
+use Rattle.kv_model.specs.Sizes.{up}
+use Rattle.kv_model.proofs.laws.record_sizes.Goals as goal
+
+pub returns : goal.returns
+unfolding up
+returns c = record { small = refl; masters = (refl, refl, refl); room = refl; largest = refl; too_large = refl }

@@ -1,0 +1,13 @@
+pub mod Checks
+pub mod Crc
+pub mod Errors
+pub mod FlaggedMap
+pub mod Flags
+pub mod History
+pub mod KeyOrder
+pub mod Keys
+pub mod NextKey
+pub mod Operations
+pub mod PlainStep
+pub mod Sizes
+pub mod StoreState
