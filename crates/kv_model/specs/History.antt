@@ -52,19 +52,19 @@ abbrev pub Mounts : Rules → StoreState → StoreState → Type 0
 Mounts rules old new = MatchOption old.doubt
     (new ≡ mounted old (maps_of old) old.spent)
     (λ doubt. (maps : FlaggedMap × FlaggedMap) × (spent : ℕ)
-        × Contains (rules.cuts old doubt.who doubt.operation) maps × (new ≡ mounted old maps spent))
+    × Contains (rules.cuts old doubt.who doubt.operation) maps × (new ≡ mounted old maps spent))
 
 -- One call and its reply: the store's step, or in its place a failed read or write of the device.
 abbrev pub Steps : Rules → StoreState → ℕ → Operation → Outcome → Type 0
 Steps rules old who operation outcome =
     (outcome ≡ rules.step old who operation)
     ⊎ ((old.doubt ≡ None) × IsTrue (may_fail_reading (rules.checks old who operation))
-        × (outcome ≡ record { state = old; reply = Refused ReadFault }))
+    × (outcome ≡ record { state = old; reply = Refused ReadFault }))
     ⊎ ((old.doubt ≡ None) × IsTrue (may_fail_writing (rules.checks old who operation))
-        × (outcome ≡ record {
-            state = record (rules.begun old who operation) { doubt = Some (record { who = who; operation = operation }) };
-            reply = Refused WriteFault;
-          }))
+    × (outcome ≡ record {
+      state = record (rules.begun old who operation) { doubt = Some (record { who = who; operation = operation }) };
+      reply = Refused WriteFault;
+    }))
 
 abbrev pub Follows : Rules → StoreState → Entry → StoreState → Type 0
 Follows rules old entry new = MatchOption (operation_of entry.call)

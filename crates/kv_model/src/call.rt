@@ -6,29 +6,56 @@ use crate::{Bytes, Flags, KvError};
 #[derive(Debug, Drop, PartialEq, Eq)]
 pub enum Call {
     /// The whole value of a key.
-    Get { key: Bytes },
+    Get {
+        key: Bytes,
+    },
     /// At most `count` bytes of a value, from `offset` on.
-    Part { key: Bytes, offset: u32, count: u32 },
+    Part {
+        key: Bytes,
+        offset: u32,
+        count: u32,
+    },
     /// The size and the flags of a value.
-    Info { key: Bytes },
+    Info {
+        key: Bytes,
+    },
     /// Sets a value in one call.
-    Set { key: Bytes, value: Bytes, flags: Flags },
+    Set {
+        key: Bytes,
+        value: Bytes,
+        flags: Flags,
+    },
     /// Takes a key away.
-    Remove { key: Bytes },
+    Remove {
+        key: Bytes,
+    },
     /// Begins an incremental set of `size` bytes.
-    Start { key: Bytes, size: u32, flags: Flags },
+    Start {
+        key: Bytes,
+        size: u32,
+        flags: Flags,
+    },
     /// Appends bytes to the incremental set.
-    Add { value: Bytes },
+    Add {
+        value: Bytes,
+    },
     /// Puts the incremental set in the place of the old value.
     Finish,
     /// Ends the incremental set without effect.
     Abort,
     /// Opens the caller's iterator `n` over the keys with a prefix.
-    IterOpen { n: u8, prefix: Bytes },
+    IterOpen {
+        n: u8,
+        prefix: Bytes,
+    },
     /// The next key of iterator `n`.
-    Next { n: u8 },
+    Next {
+        n: u8,
+    },
     /// Closes iterator `n`.
-    IterClose { n: u8 },
+    IterClose {
+        n: u8,
+    },
     /// Takes all keys away.
     Reset,
     /// Mounts the store anew, as after a power cut.

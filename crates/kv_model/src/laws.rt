@@ -15,21 +15,17 @@ pub fn crc_values()
     ensures a { crc_of (codes "a") ≡ 0x1748_41BC }
     ensures b { crc_of (codes "b") ≡ 0x8E41_1006 }
     ensures c { crc_of (codes "c") ≡ 0xF946_2090 }
-    ensures hashes_of_4_bits {
-        (key_hash 4 (codes "a") ≡ 12) × (key_hash 4 (codes "b") ≡ 6) × (key_hash 4 (codes "c") ≡ 0) }
-    ensures hashes_of_8_bits {
-        (key_hash 8 (codes "a") ≡ 188) × (key_hash 8 (codes "b") ≡ 6) × (key_hash 8 (codes "c") ≡ 144) }
+    ensures hashes_of_4_bits { (key_hash 4 (codes "a") ≡ 12) × (key_hash 4 (codes "b") ≡ 6) × (key_hash 4 (codes "c") ≡ 0) }
+    ensures hashes_of_8_bits { (key_hash 8 (codes "a") ≡ 188) × (key_hash 8 (codes "b") ≡ 6) × (key_hash 8 (codes "c") ≡ 144) }
     ensures hash_of_no_bits { key_hash 0 (codes "a") ≡ 0 }
-{
-}
+{}
 
 /// Padding goes to the least multiple of the program unit that is not less than the size.
 pub fn padding_is_least()
     ensures not_less { (prog x : ℕ) → 1 ≤ prog → x ≤ up prog x }
     ensures multiple { (prog x : ℕ) → up prog x % prog ≡ 0 }
     ensures least { (prog x m : ℕ) → 1 ≤ prog → x ≤ m * prog → up prog x ≤ m * prog }
-{
-}
+{}
 
 /// Sizes of records, masters and rooms in bytes, worked out by hand.
 pub fn record_sizes()
@@ -38,18 +34,15 @@ pub fn record_sizes()
     ensures room { room_of 8 65536 ≡ 65496 }
     ensures largest { record_size 8 1 65471 ≡ 65496 }
     ensures too_large { record_size 8 1 65472 ≡ 65504 }
-{
-}
+{}
 
 /// Iterators give keys in a total order: no two keys tie.
 pub fn key_order_is_total()
     ensures total { (hash_bits : ℕ) → IsTotalOrder (key_order hash_bits) }
-{
-}
+{}
 
 /// A history goes on by one entry that follows from its last state.
 pub fn history_goes_on()
     ensures { (rules : Rules) (old mid new : StoreState) (entries : List Entry) (entry : Entry)
         → Runs rules old entries mid → Follows rules mid entry new → Runs rules old (entries ++ entry ∷ []) new }
-{
-}
+{}

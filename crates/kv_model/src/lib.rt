@@ -8,6 +8,7 @@ mod error;
 mod flags;
 mod key;
 mod laws;
+mod pattern;
 
 pub use bytes::{Bytes, NoMemory};
 pub use call::{Call, Entry, Got, Info, Reply};
@@ -15,3 +16,4 @@ pub use error::KvError;
 pub use flags::Flags;
 pub use key::{Key, is_key, is_prefix};
 pub use laws::{crc_values, history_goes_on, key_order_is_total, padding_is_least, record_sizes};
+pub use pattern::Pattern;
