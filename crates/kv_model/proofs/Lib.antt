@@ -1,4 +1,5 @@
 pub mod CrcLemmas
 pub mod HistoryLemmas
+pub mod MapLemmas
 pub mod OrderLemmas
 pub mod SizesLemmas

@@ -1,6 +1,7 @@
 pub mod Checks
 pub mod Crc
 pub mod Errors
+pub mod Examples
 pub mod FlaggedMap
 pub mod Flags
 pub mod History
@@ -9,5 +10,6 @@ pub mod Keys
 pub mod NextKey
 pub mod Operations
 pub mod PlainStep
+pub mod Replies
 pub mod Sizes
 pub mod StoreState

@@ -5,6 +5,7 @@
 mod bytes;
 mod call;
 mod error;
+mod examples;
 mod flags;
 mod key;
 mod laws;
@@ -13,7 +14,47 @@ mod pattern;
 pub use bytes::{Bytes, NoMemory};
 pub use call::{Call, Entry, Got, Info, Reply};
 pub use error::KvError;
+pub use examples::{
+    empty_value, full_store, get_beside_an_open_set, iterator_beside_changes, iterators_by_number,
+    refusals_beside_an_open_set, set_then_get, write_once,
+};
 pub use flags::Flags;
 pub use key::{Key, is_key, is_prefix};
 pub use laws::{crc_values, history_goes_on, key_order_is_total, padding_is_least, record_sizes};
 pub use pattern::Pattern;
+
+#[cfg(test)]
+mod tests {
+    use super::*;
+    use std::test::Fail;
+
+    // The rules on keys, at their limits.
+    #[test]
+    fn key_rules(rt: HostRuntime) -> Result<(), Fail> {
+        let longest = [b'x'; 128];
+        let too_long = [b'x'; 129];
+        let cases: [(&[u8], bool); 7] = [
+            (b"k", true),
+            (b"!~", true),
+            (&longest, true),
+            (&too_long, false),
+            (b"TDBS", false),
+            (b"a/b", false),
+            (b"", false),
+        ];
+        for (bytes, valid) in cases.iter() {
+            assert_eq!(rt; Key::new(bytes).is_ok(), *valid);
+        }
+        let key = Key::new(b"cert.pem").expect(&rt, "a key");
+        assert_eq!(rt; key.as_slice(), b"cert.pem".as_slice());
+        Ok(())
+    }
+
+    #[test]
+    fn bytes_are_copied(rt: HostRuntime) -> Result<(), Fail> {
+        let bytes = Bytes::new(rt.alloc(), b"value").expect(&rt, "memory");
+        assert_eq!(rt; bytes.as_slice(), b"value".as_slice());
+        assert_eq!(rt; Bytes::empty(rt.alloc()).as_slice().len(), 0);
+        Ok(())
+    }
+}

@@ -1,0 +1,25 @@
+-- The stores of the worked examples: a program unit of 8 bytes, and areas of 65,536.
+use Rattle.std.specs.Prelude.{ℕ, List, [], ◌∷◌, Option, codes}
+use Rattle.std.specs.FinMap.{empty, insert}
+use Rattle.kv_model.specs.FlaggedMap.{FlaggedMap}
+use Rattle.kv_model.specs.Sizes.{room_of}
+use Rattle.kv_model.specs.StoreState.{StoreState, Position, fresh_state}
+use Rattle.kv_model.specs.PlainStep.{Constants}
+
+abbrev pub example_store : Constants
+example_store = record { hash_bits = 32; prog = 8; room = room_of 8 65536 }
+
+abbrev pub empty_store : StoreState
+empty_store = fresh_state empty empty 1 0
+
+abbrev pub k : List ℕ
+k = codes "k"
+
+-- a map of keys of one letter each
+abbrev pub map_of_keys : List ℕ → FlaggedMap
+map_of_keys [] = empty
+map_of_keys (letter ∷ letters) = insert (map_of_keys letters) (letter ∷ []) (record { flags = 0; bytes = [] })
+
+-- an iterator over all keys that gave this one last
+abbrev pub position_behind : Option (List ℕ) → Position
+position_behind last = record { prefix = []; last = last }
