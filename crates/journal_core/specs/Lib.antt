@@ -1,0 +1,2 @@
+pub mod JournalState
+pub mod Texts
