@@ -3,7 +3,7 @@ use crate::{Bytes, Flags, KvError};
 
 /// One call of a client. Keys and prefixes are as the client wrote them: the store says whether they are of the form
 /// that it wants. Offsets, counts and sizes are in bytes.
-#[derive(Debug, Drop, PartialEq, Eq)]
+#[derive(Clone, Debug, Drop, PartialEq, Eq)]
 pub enum Call {
     /// The whole value of a key.
     Get {
