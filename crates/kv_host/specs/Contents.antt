@@ -1,0 +1,35 @@
+-- What a host that tells its bytes contains: its files by name, and what was printed so far.
+use Rattle.std.specs.Prelude.{◌≡◌, ℕ, ◌+◌, ◌<◌, ◌≤◌, ◌^◌, ◌⊎◌, List, [], ◌++◌, Option, Some, None, refl}
+use Rattle.std.specs.Option.{option_map}
+use Rattle.std.specs.Ordering.{nat_cmp}
+use Rattle.std.specs.Cmp.Lexicographic.{slice_cmp}
+use Rattle.std.specs.FinMap.{FinMap, insert, get}
+
+-- from the bytes of a name to the bytes of the file
+abbrev pub Files : Type 0
+Files = FinMap (slice_cmp nat_cmp) (List ℕ)
+
+pub record HostContents : Type 0 where
+  pub files : Files
+  pub printed : List ℕ
+
+-- the file of this name, where there is one
+abbrev pub file_at : List ℕ → HostContents → Option (List ℕ)
+file_at name c = get c.files name
+
+-- a file was replaced, or made
+abbrev pub with_file : List ℕ → List ℕ → HostContents → HostContents
+with_file name bytes c = record { files = insert c.files name bytes; printed = c.printed }
+
+-- bytes were printed behind those before
+abbrev pub with_printed : List ℕ → HostContents → HostContents
+with_printed bytes c = record { files = c.files; printed = c.printed ++ bytes }
+
+-- The count of faults rose, or stands at the end of its type, where no count can rise.
+abbrev pub Rose : ℕ → ℕ → Type 0
+Rose before after = (before < after) ⊎ (2 ^ 64 ≤ after + 1)
+
+-- of a host that tells its contents, P holds of them
+abbrev pub IfTold : Option HostContents → (HostContents → Type 0) → Type 0
+IfTold None P = Unit {0}
+IfTold (Some c) P = P c

@@ -1,0 +1,7 @@
+//! The host: named files, and a place to print. `Host` is the trait, `MemHost` a host in memory that
+//! tells its contents and can be made to fail, and `StdHost` real files and standard output.
+#![tactic(auto)]
+
+mod interface;
+
+pub use interface::{Host, HostFault};
