@@ -1,2 +1,5 @@
 pub mod Contents
+pub mod MemState
+pub mod MemView
 pub mod Refusal
+pub mod Table

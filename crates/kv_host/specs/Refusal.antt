@@ -20,3 +20,10 @@ fault_number Fault = 1
 fault_number (TooLong seen) = 2
 fault_number Absent = 3
 fault_number Memory = 4
+
+-- why a file of `size` bytes is not read up to `limit` bytes: it is longer, or memory ran out
+abbrev pub IsLengthRefusal : ℕ → ℕ → HostFault → Type 0
+IsLengthRefusal size limit (TooLong seen) = (limit < seen) × (seen ≡ size)
+IsLengthRefusal size limit Memory = Unit {0}
+IsLengthRefusal size limit Fault = ⊥
+IsLengthRefusal size limit Absent = ⊥

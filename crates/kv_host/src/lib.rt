@@ -2,6 +2,11 @@
 //! tells its contents and can be made to fail, and `StdHost` real files and standard output.
 #![tactic(auto)]
 
+mod count;
 mod interface;
+mod memory;
+mod place;
+mod table;
 
 pub use interface::{Host, HostFault};
+pub use memory::MemHost;
