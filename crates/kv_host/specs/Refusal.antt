@@ -27,3 +27,10 @@ IsLengthRefusal size limit (TooLong seen) = (limit < seen) × (seen ≡ size)
 IsLengthRefusal size limit Memory = Unit {0}
 IsLengthRefusal size limit Fault = ⊥
 IsLengthRefusal size limit Absent = ⊥
+
+-- a length that is told is above the limit
+abbrev pub IsPast : ℕ → HostFault → Type 0
+IsPast limit (TooLong seen) = limit < seen
+IsPast limit Fault = Unit {0}
+IsPast limit Absent = Unit {0}
+IsPast limit Memory = Unit {0}

@@ -6,7 +6,9 @@ mod count;
 mod interface;
 mod memory;
 mod place;
+mod system;
 mod table;
 
 pub use interface::{Host, HostFault};
 pub use memory::MemHost;
+pub use system::StdHost;
