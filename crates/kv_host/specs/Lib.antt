@@ -1,4 +1,5 @@
 pub mod Contents
+pub mod Laws
 pub mod MemState
 pub mod MemView
 pub mod Refusal

@@ -4,10 +4,13 @@
 
 mod count;
 mod interface;
+pub mod laws;
 mod memory;
 mod place;
 mod system;
 mod table;
+#[cfg(test)]
+mod tests;
 
 pub use interface::{Host, HostFault};
 pub use memory::MemHost;
