@@ -3,11 +3,11 @@ use Rattle.std.proofs.Common.{◌≡◌, ◌≢◌, ℕ, ◌<◌, ◌≤◌, ◌
 use Rattle.std.proofs.Math.ListN.{set, length-set}
 use Rattle.std.proofs.lemmas.List.{take-append-le, drop-append-le, map-append}
 use Rattle.std.proofs.Math.Seq.{drop-append_seam, take-length}
-use Rattle.std.specs.Prelude.{Option, Some, None, is_some}
+use Rattle.std.specs.Prelude.{Some, None, is_some}
 use Rattle.std.specs.Ordering.{nat_cmp}
 use Rattle.std.specs.Cmp.Lexicographic.{slice_cmp, nat_list_cmp_total}
 use Rattle.std.specs.List.{All}
-use Rattle.std.specs.FinMap.{empty, len-empty, IsAntisymmetric, nat_cmp-IsAntisymmetric, slice_cmp-IsAntisymmetric, find, from_entries, from_entries_push, insert, get, len, contains_key, get-from_entries, len-insert}
+use Rattle.std.specs.FinMap.{empty, len-empty, IsAntisymmetric, nat_cmp-IsAntisymmetric, slice_cmp-IsAntisymmetric, from_entries, from_entries_push, insert, get, len, get-from_entries, len-insert}
 use Rattle.std.proofs.lemmas.List.Elements.{All-nil, All-head, All-tail, All-take, All-weaker, All-set, All-push}
 use Rattle.kv_host.specs.declared.table.Span.{Span}
 use Rattle.kv_host.specs.declared.table.Entry.{Entry}

@@ -1,7 +1,6 @@
 -- The state of a host in memory, from its fields.
-use Rattle.std.specs.Prelude.{◌≡◌, ℕ, ◌+◌, ◌-◌, ◌*◌, ◌≤◌, List, length, vec_len, vec_capacity}
+use Rattle.std.specs.Prelude.{◌+◌, ◌-◌, ◌*◌, ◌≤◌, vec_len, vec_capacity}
 use Rattle.kv_host.specs.declared.memory.MemHost.TheInside.{Inside}
-use Rattle.kv_host.specs.Contents.{HostContents}
 use Rattle.kv_host.specs.MemState.{MemState}
 use Rattle.kv_host.specs.Table.{files_of, IsTable}
 

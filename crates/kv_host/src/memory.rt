@@ -104,22 +104,9 @@ impl MemHost {
     }
 }
 
-/// The buffers of a host: for names and files, for the table, and for what is printed.
-fn reserved(alloc: Global, room: u32) -> Result<(Vec<u8>, Vec<Entry>, Vec<u8>), AllocError>
-    ensures arena { IfOk result (λ b. IsReserved b.0 (room + 512)) }
-    ensures entries { IfOk result (λ b. IsReserved b.1 8) }
-    ensures printed { IfOk result (λ b. IsReserved b.2 room) }
-{
-    let room = room as usize;
-    let arena = Vec::with_capacity(alloc, room + NAMES * NAME_LENGTH)?;
-    let entries = Vec::with_capacity(alloc, NAMES)?;
-    let printed = Vec::with_capacity(alloc, room)?;
-    Ok((arena, entries, printed))
-}
-
 impl MemHost {
     /// Counts a call, and answers whether it is one that is to fail.
-    fn begins_to_fail(&mut self) -> bool
+    fn next_call_fails(&mut self) -> bool
         ensures answer { result ≡ fails_next self.old }
         ensures counted { self.new ≡ called self.old }
     {
@@ -155,13 +142,26 @@ impl MemHost {
     }
 }
 
-/// Replaces `out` by the bytes where they are at most `limit`, and else empties it.
-fn copy_within(bytes: &[u8], limit: u32, out: &mut Vec<u8>) -> Result<(), HostFault>
+/// The buffers of a host: for names and files, for the table, and for what is printed.
+fn reserved(alloc: Global, room: u32) -> Result<(Vec<u8>, Vec<Entry>, Vec<u8>), AllocError>
+    ensures arena { IfOk result (λ b. IsReserved b.0 (room + 512)) }
+    ensures entries { IfOk result (λ b. IsReserved b.1 8) }
+    ensures printed { IfOk result (λ b. IsReserved b.2 room) }
+{
+    let room = room as usize;
+    let arena = Vec::with_capacity(alloc, room + NAMES * NAME_LENGTH)?;
+    let entries = Vec::with_capacity(alloc, NAMES)?;
+    let printed = Vec::with_capacity(alloc, room)?;
+    Ok((arena, entries, printed))
+}
+
+/// Copies the bytes to `out`, which is empty, where they are at most `limit`.
+fn copy_limited(bytes: &[u8], limit: u32, out: &mut Vec<u8>) -> Result<(), HostFault>
+    requires { out.old.items ≡ [] }
     ensures copied { OnOk result ((out.new.items ≡ bytes.now) × (length bytes.now ≤ limit)) }
     ensures empty { OnErr result (out.new.items ≡ []) }
     ensures refused { IfErr result (λ e. IsLengthRefusal (length bytes.now) limit e) }
 {
-    out.clear();
     if bytes.len() > limit as usize {
         return Err(HostFault::TooLong {
             length: bytes.len() as u64,
@@ -187,11 +187,11 @@ impl Host for MemHost {
         ensures refused { IfErr result (ReadRefusal (Some self.old.contents) name.now limit self.old.faults self.new.faults) }
     {
         out.clear();
-        if self.begins_to_fail() {
+        if self.next_call_fails() {
             return Err(self.fault());
         }
         match self.file(name) {
-            Some(bytes) => copy_within(bytes, limit, out),
+            Some(bytes) => copy_limited(bytes, limit, out),
             None => Err(HostFault::Absent),
         }
     }
@@ -202,7 +202,8 @@ impl Host for MemHost {
         ensures refused { IfErr result (λ e. e ≡ HostFault.Fault) }
         ensures faulted { OnErr result (self.new ≡ faulted (called self.old)) }
     {
-        if self.begins_to_fail() {
+        let listed = self.next_call_fails();
+        if listed {
             return Err(self.fault());
         }
         self.put_file(name, bytes)
@@ -214,7 +215,7 @@ impl Host for MemHost {
         ensures refused { IfErr result (λ e. e ≡ HostFault.Fault) }
         ensures faulted { OnErr result (self.new ≡ faulted (called self.old)) }
     {
-        if self.begins_to_fail() {
+        if self.next_call_fails() {
             return Err(self.fault());
         }
         self.append(bytes)

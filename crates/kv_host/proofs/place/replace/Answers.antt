@@ -1,6 +1,5 @@
-use Rattle.std.proofs.Common.{ap, sym, refl}
-use Rattle.std.proofs.Math.ListN.{set}
-use Rattle.kv_host.proofs.Files.{Stores, replaced}
+use Rattle.std.proofs.Common.{ap}
+use Rattle.kv_host.proofs.Files.{replaced}
 use Rattle.kv_host.proofs.place.replace.Goals as goal
 
 pub returns-clause-files : goal.returns-clause-files
