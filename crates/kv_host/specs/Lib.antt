@@ -1,3 +1,4 @@
+pub mod Calm
 pub mod Contents
 pub mod Laws
 pub mod MemState

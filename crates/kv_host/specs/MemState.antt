@@ -1,5 +1,5 @@
 -- What is known of a host in memory.
-use Rattle.std.specs.Prelude.{ℕ, ◌-◌, ◌<◌, ◌≤◌, ◌⊎◌, ◌==◌, Bool, List, [], length, IsTrue, refl}
+use Rattle.std.specs.Prelude.{◌≡◌, ◌+◌, ℕ, ◌-◌, ◌<◌, ◌≤◌, ◌⊎◌, ◌==◌, Bool, List, [], length, IsTrue, refl}
 use Rattle.std.specs.List.{list_any}
 use Rattle.std.specs.FinMap.{empty, contains_key, len}
 use Rattle.std.specs.Coded.{Coded, code_by, coded×, coded_ℕ, coded_list}
@@ -27,6 +27,12 @@ pub record CanStore (s : MemState) (name bytes : List ℕ) : Type 0 where
   pub room : length bytes ≤ s.left
   pub short : length name ≤ 64
   pub place : HasPlace s.contents.files name
+
+-- no call is to fail, and there are places and room for so many more names and bytes
+pub record IsCalm (s : MemState) (names bytes : ℕ) : Type 0 where
+  pub unlisted : s.failing ≡ []
+  pub places : len s.contents.files + names ≤ 8
+  pub room : bytes ≤ s.left
 
 -- a call was made
 abbrev pub called : MemState → MemState

@@ -1,5 +1,5 @@
 //! What the engine asks of the outside: files read and written whole, and bytes printed.
-ghost use Rattle.std.specs.Prelude.{◌≡◌, ℕ, ◌≤◌, [], take, Option, Some, vec_len, IfErr, OnOk, OnErr};
+ghost use Rattle.std.specs.Prelude.{◌≡◌, ◌≢◌, ◌+◌, length, Err, IsOk, ℕ, ◌≤◌, [], take, Option, Some, vec_len, IfErr, OnOk, OnErr};
 ghost use Rattle.std.specs.Option.{option_map};
 ghost use Rattle.kv_host.specs.Contents.{HostContents, file_at, with_file, with_printed, Rose, IfTold};
 ghost use Rattle.kv_host.specs.Refusal.{ReadRefusal, fault_number};
@@ -42,6 +42,10 @@ pub trait Host {
     /// The files and the printed bytes, or `None` where the host does not tell.
     ghost contents: { Self → Option HostContents };
 
+    /// No fault comes while at most so many more files, with names of at most 64 bytes, and so many
+    /// more bytes, stored and printed together, are taken.
+    ghost is_calm: { Self → ℕ → ℕ → Type 0 };
+
     /// Replaces `out` by the bytes of a file of at most `limit` bytes. After a refusal `out` is empty.
     ///
     /// # Errors
@@ -54,6 +58,7 @@ pub trait Host {
         ensures within { OnOk result (vec_len out.new ≤ limit) }
         ensures read { OnOk result (IfTold (contents self.old) (λ c. file_at name.now c ≡ Some out.new.items)) }
         ensures empty { OnErr result (out.new.items ≡ []) }
+        ensures calm { (names bytes : ℕ) → is_calm self.old names bytes → (result ≢ Err HostFault.Fault) × is_calm self.new names bytes }
         ensures refused { IfErr result (ReadRefusal (contents self.old) name.now limit (faults self.old) (faults self.new)) };
 
     /// Replaces the whole file, or makes it. A refused write changes nothing that is told.
@@ -64,6 +69,8 @@ pub trait Host {
         ensures count { faults self.old ≤ faults self.new }
         ensures written { OnOk result (contents self.new ≡ option_map (with_file name.now bytes.now) (contents self.old)) }
         ensures stands { OnErr result (contents self.new ≡ contents self.old) }
+        ensures calm { (names room fewer less : ℕ) → is_calm self.old names room → fewer + 1 ≤ names → less + length bytes.now ≤ room →
+            length name.now ≤ 64 → IsOk result × is_calm self.new fewer less }
         ensures refused { IfErr result (λ e. (e ≡ HostFault.Fault) × Rose (faults self.old) (faults self.new)) };
 
     /// Prints bytes behind those printed before. A refused print has printed a prefix of them.
@@ -74,5 +81,6 @@ pub trait Host {
         ensures count { faults self.old ≤ faults self.new }
         ensures printed { OnOk result (contents self.new ≡ option_map (with_printed bytes.now) (contents self.old)) }
         ensures partly { OnErr result ((n : ℕ) × (contents self.new ≡ option_map (with_printed (take n bytes.now)) (contents self.old))) }
+        ensures calm { (names room less : ℕ) → is_calm self.old names room → less + length bytes.now ≤ room → IsOk result × is_calm self.new names less }
         ensures refused { IfErr result (λ e. (e ≡ HostFault.Fault) × Rose (faults self.old) (faults self.new)) };
 }

@@ -1,11 +1,11 @@
 //! A host in memory, which tells its contents and can be made to fail.
-ghost use Rattle.std.specs.Prelude.{◌≡◌, ℕ, ◌≤◌, ◌<◌, ◌↔◌, [], take, Option, Some, Err, true, false, if◌then◌else◌, IsOk, IsErr, IsTrue, IfOk, IfErr, OnOk, OnErr, ◌+◌, length, vec_len, vec_capacity};
+ghost use Rattle.std.specs.Prelude.{◌≡◌, ◌≢◌, ℕ, ◌≤◌, ◌<◌, ◌↔◌, [], take, Option, Some, Err, true, false, if◌then◌else◌, IsOk, IsErr, IsTrue, IfOk, IfErr, OnOk, OnErr, ◌+◌, length, vec_len, vec_capacity};
 ghost use Rattle.std.specs.Option.{option_copied, option_map};
 ghost use Rattle.std.specs.FinMap as map;
 ghost use Rattle.kv_host.specs.Contents.{HostContents, file_at, with_file, with_printed, Rose, IfTold};
 ghost use Rattle.kv_host.specs.Refusal.{IsLengthRefusal, ReadRefusal};
 ghost use Rattle.kv_host.specs.Table.{IsReserved};
-ghost use Rattle.kv_host.specs.MemState.{MemState, CanStore, called, faulted, fails_next, new_state, shown, stored};
+ghost use Rattle.kv_host.specs.MemState.{IsCalm, MemState, CanStore, called, faulted, fails_next, new_state, shown, stored};
 
 use crate::count::counted_up;
 use crate::interface::{Host, HostFault};
@@ -52,6 +52,7 @@ impl MemHost {
     /// `Memory` alone, where memory ran out.
     pub fn new(alloc: Global, failing: Vec<u32>, room: u32) -> Result<MemHost, HostFault>
         ensures made { IfOk result (λ host. host ≡ new_state failing.items room) }
+        ensures calm { failing.items ≡ [] → IfOk result (λ host. IsCalm host 8 room) }
         ensures refused { IfErr result (λ e. e ≡ HostFault.Memory) }
     {
         match reserved(alloc, room) {
@@ -178,8 +179,11 @@ impl Host for MemHost {
 
     ghost contents = { λ s. Some s.contents };
 
+    ghost is_calm = { IsCalm };
+
     fn read_file(&mut self, name: &str, limit: u32, out: &mut Vec<u8>) -> Result<(), HostFault>
         ensures state { self.new ≡ (if fails_next self.old then faulted (called self.old) else called self.old) }
+        ensures calm { (names bytes : ℕ) → IsCalm self.old names bytes → (result ≢ Err HostFault.Fault) × IsCalm self.new names bytes }
         ensures failing { (result ≡ Err HostFault.Fault) ↔ (fails_next self.old ≡ true) }
         ensures within { OnOk result (vec_len out.new ≤ limit) }
         ensures read { OnOk result (file_at name.now self.old.contents ≡ Some out.new.items) }
@@ -197,6 +201,8 @@ impl Host for MemHost {
     }
 
     fn write_file(&mut self, name: &str, bytes: &[u8]) -> Result<(), HostFault>
+        ensures calm { (names room fewer less : ℕ) → IsCalm self.old names room → fewer + 1 ≤ names → less + length bytes.now ≤ room →
+            length name.now ≤ 64 → IsOk result × IsCalm self.new fewer less }
         ensures taken { IsOk result ↔ ((fails_next self.old ≡ false) × CanStore self.old name.now bytes.now) }
         ensures stored { OnOk result (self.new ≡ stored (called self.old) name.now bytes.now) }
         ensures refused { IfErr result (λ e. e ≡ HostFault.Fault) }
@@ -210,6 +216,7 @@ impl Host for MemHost {
     }
 
     fn print(&mut self, bytes: &[u8]) -> Result<(), HostFault>
+        ensures calm { (names room less : ℕ) → IsCalm self.old names room → less + length bytes.now ≤ room → IsOk result × IsCalm self.new names less }
         ensures taken { IsOk result ↔ ((fails_next self.old ≡ false) × (length bytes.now ≤ self.old.left)) }
         ensures shown { OnOk result (self.new ≡ shown (called self.old) bytes.now) }
         ensures refused { IfErr result (λ e. e ≡ HostFault.Fault) }

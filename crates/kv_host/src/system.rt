@@ -46,6 +46,8 @@ impl<R: Files + Print> Host for StdHost<'_, R> {
 
     ghost contents = { λ _. None };
 
+    ghost is_calm = { λ _ _ _. ⊥ };
+
     fn read_file(&mut self, name: &str, limit: u32, out: &mut Vec<u8>) -> Result<(), HostFault> {
         let answer = read_within(self.rt, name, limit, out);
         if let Err(refusal) = answer {
