@@ -1,0 +1,5 @@
+pub mod HeaderLast
+pub mod ImageLaws
+pub mod KeptLaws
+pub mod MomentLaws
+pub mod Units

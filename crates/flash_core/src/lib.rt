@@ -1,0 +1,16 @@
+//! The flash device that everything above is generic over: its geometry, the trait `Flash` with all that a
+//! contract may say of a device, and a device in memory.
+//!
+//! Places and lengths are in bytes. A program unit is the least that is programmed at once; an erase unit is
+//! the least that is erased at once, to 0xFF. The device has two areas of equal size, area 0 first.
+#![tactic(auto)]
+
+mod flash;
+mod geometry;
+mod record_flash;
+mod two_programs;
+
+pub use flash::{Flash, FlashFault};
+pub use geometry::{Geometry, round_up};
+pub use record_flash::{NoMemory, RecordFlash};
+pub use two_programs::program_payload_then_header;
