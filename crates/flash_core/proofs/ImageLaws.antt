@@ -1,8 +1,8 @@
 -- What a put leaves of an image, and what a cut may.
-use Rattle.std.proofs.Common.{◌≡◌, ◌⊎◌, ℕ, ◌+◌, ◌-◌, ◌<◌, ◌≤◌, List, ◌++◌, length, get_or, take, drop, replicate, refl, sym, ◌∙◌, ap, arith, subst, inl, ⊎_elim}
-use Rattle.std.proofs.lemmas.List.{places, ext_get_or, same_lists, get_or-drop, length-drop, length-take, length-replicate, get_or-replicate}
+use Rattle.std.proofs.Common.{◌≡◌, ◌⊎◌, ℕ, ◌+◌, ◌-◌, ◌<◌, ◌≤◌, List, [], ◌++◌, length, get_or, take, drop, replicate, refl, sym, ◌∙◌, ap, arith, subst, inl, ⊎_elim, add-zero}
+use Rattle.std.proofs.lemmas.List.{places, ext_get_or, same_lists, get_or-drop, length-drop, length-take, length-replicate, get_or-replicate, append-nil, drop-drop, drop-take, take-append-drop, take-take}
 use Rattle.flash_core.specs.Images.{part, put, IsErased, Torn}
-use Rattle.flash_core.specs.State.{DeviceCall, call_at, before_of, after_of}
+use Rattle.flash_core.specs.State.{call_at, before_of, after_of}
 
 pub length-part : (image : List ℕ) (place n : ℕ) → place + n ≤ length image → length (part image place n) ≡ n
 length-part image place n fits = simp (length-take, length-drop) (omega arith)
@@ -32,6 +32,40 @@ module _ (image : List ℕ) (place : ℕ) (bytes : List ℕ) (fits : place + len
       (λ i inside. let lt : i < length bytes = omega (arith, inside, length-part (put image place bytes) place (length bytes) (omega (arith, length-put))) in
       get_or-part (put image place bytes) place (length bytes) i lt ∙ get_or-put_inside i lt)
 
+  pub part-put_inside : (q m : ℕ) → q + m ≤ length bytes → part (put image place bytes) (place + q) m ≡ part bytes q m
+  part-put_inside q m inside =
+      let long : length (part (put image place bytes) (place + q) m) ≡ m = length-part (put image place bytes) (place + q) m (omega (arith, length-put)) in
+      ext_get_or 0 _ _ (long ∙ sym (length-part bytes q m inside)) (λ i lt_long.
+      let lt : i < m = omega (arith, lt_long, long) in
+      let at : place + q + i ≡ place + (q + i) = omega arith in
+      get_or-part (put image place bytes) (place + q) m i lt
+      ∙ ap (λ (k : ℕ). get_or (put image place bytes) k 0) at
+      ∙ get_or-put_inside (q + i) (omega arith)
+      ∙ sym (get_or-part bytes q m i lt))
+
+  pub take-put : (n : ℕ) → n ≤ place → take n (put image place bytes) ≡ take n image
+  take-put n below = same_lists _ _ (search (arith, places)) (λ k d inside. grind (arith, places))
+
+  pub drop-put : (n : ℕ) → place + length bytes ≤ n → drop n (put image place bytes) ≡ drop n image
+  drop-put n behind = same_lists _ _ (search (arith, places)) (λ k d inside. grind (arith, places))
+
+pub put-nil : (image : List ℕ) (place : ℕ) → put image place [] ≡ image
+put-nil image place =
+    ap (λ (l : List ℕ). l ++ drop (place + 0) image) (append-nil (take place image))
+    ∙ ap (λ (n : ℕ). take place image ++ drop n image) (add-zero place)
+    ∙ take-append-drop place image
+
+-- two puts one behind the other
+pub put-append : (image : List ℕ) (place : ℕ) (xs ys : List ℕ) → place + length (xs ++ ys) ≤ length image → put (put image place xs) (place + length xs) ys ≡ put image place (xs ++ ys)
+put-append image place xs ys fits = same_lists _ _ (search (arith, places)) (λ k d inside. grind (arith, places))
+
+pub part-append : (image : List ℕ) (place n m : ℕ) → part image place (n + m) ≡ part image place n ++ part image (place + n) m
+part-append image place n m =
+    let xs : List ℕ = drop place image in
+    sym (take-append-drop n (take (n + m) xs))
+    ∙ ap (λ (l : List ℕ). l ++ drop n (take (n + m) xs)) (take-take n (n + m) xs (omega arith))
+    ∙ ap (λ (l : List ℕ). take n xs ++ l) (drop-take n m xs ∙ ap (λ (l : List ℕ). take m l) (drop-drop n place image))
+
 -- a range that a cut doesn't touch
 pub part-Torn : (place n : ℕ) (old new : List ℕ) (q m : ℕ) → Torn place n old new → (q + m ≤ place) ⊎ (place + n ≤ q) → q + m ≤ length old → part new q m ≡ part old q m
 part-Torn place n old new q m torn apart fits =
@@ -48,6 +82,10 @@ IsErased-Torn place n old new q m torn apart erased i from to = ⊎_elim
     (λ behind. torn.behind i (omega (arith, behind, from)) ∙ erased i from to)
     apart
 
+-- a part of an erased range
+pub IsErased-within : (image : List ℕ) (place n q m : ℕ) → IsErased image place n → place ≤ q → q + m ≤ place + n → IsErased image q m
+IsErased-within image place n q m erased from to i at_least below = erased i (omega arith) (omega arith)
+
 -- an erase leaves an erased unit
 pub IsErased-put : (image : List ℕ) (place n : ℕ) → place + n ≤ length image → IsErased (put image place (replicate n 255)) place n
 IsErased-put image place n fits i from to =
@@ -58,6 +96,10 @@ IsErased-put image place n fits i from to =
     ap (λ (k : ℕ). get_or (put image place bytes) k 0) (sym at)
     ∙ get_or-put_inside image place bytes (omega (arith, fits, long)) (i - place) (omega (arith, lt, long))
     ∙ get_or-replicate n (i - place) 255 0 lt
+
+-- an image of 0xFF alone
+pub IsErased-replicate : (size place n : ℕ) → place + n ≤ size → IsErased (replicate size 255) place n
+IsErased-replicate size place n fits i from to = get_or-replicate size i 255 0 (omega arith)
 
 pub part-IsErased : (image : List ℕ) (place n : ℕ) → place + n ≤ length image → IsErased image place n → part image place n ≡ replicate n 255
 part-IsErased image place n fits erased =

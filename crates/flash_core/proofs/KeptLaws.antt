@@ -1,15 +1,15 @@
 -- What runs of calls keep of a device.
-use Rattle.std.proofs.Common.{◌≡◌, ◌⊎◌, ℕ, ◌+◌, ◌≤◌, List, length, Bool, true, false, refl, sym, ◌∙◌, ap, subst, arith}
-use Rattle.std.specs.Prelude.{Option, Some, None, Result, Ok, is_some}
+use Rattle.std.proofs.Common.{◌≡◌, ◌⊎◌, ℕ, ◌+◌, ◌*◌, ◌≤◌, List, length, inl, inr, ⊎_elim, refl, sym, ◌∙◌, ap, subst, arith}
+use Rattle.std.specs.Prelude.{Option, Some, None, Ok, is_some}
 use mathlib.Core.Bool.{false≢true}
-use Rattle.flash_core.specs.declared.flash.FlashFault.{FlashFault}
 use Rattle.flash_core.specs.declared.geometry.Geometry.{Geometry}
-use Rattle.flash_core.specs.Calls.{CanErase, CanProgram, CanRead, Keeps, OnlyReads, Writes}
+use Rattle.flash_core.specs.Calls.{CanErase, CanProgram, CanRead, Keeps, OnlyReads, Rose, Writes, erased_unit}
 use Rattle.flash_core.specs.Images.{put, IsErased}
 use Rattle.flash_core.specs.Sizes.{size_of}
 use Rattle.flash_core.specs.State.{FlashState, IfTold, IsLawful}
 use Rattle.flash_core.specs.Up.{IsMultipleOf}
-use Rattle.flash_core.proofs.ImageLaws.{IsErased-Torn, Torn-put}
+use Rattle.flash_core.proofs.ImageLaws.{IsErased-Torn, IsErased-put, Torn-put}
+use Rattle.flash_core.proofs.Units.{IsMultipleOf-mul, unit_fits}
 
 pub Keeps-refl : (s : FlashState) → Keeps s s
 Keeps-refl s = record {
@@ -114,6 +114,10 @@ CanProgram-kept {old} {new} {place} {n} kept erased can = record {
   erased = erased;
 }
 
+-- the whole unit lies in the image
+pub CanErase-fits : {s : FlashState} {place : ℕ} → CanErase s place → place + s.geometry.erase ≤ size_of s.geometry
+CanErase-fits {s} {place} can = unit_fits s.geometry.erase place (size_of s.geometry) can.place_aligned (IsMultipleOf-mul s.geometry.erase (2 * s.geometry.units_per_area)) can.inside
+
 some_is : {X : Type 0} (x y : X) → Some x ≡ Some y → x ≡ y
 some_is x y same = cc
 
@@ -131,3 +135,18 @@ erased_after {T} {old} {new} {place} {bytes} q m lawful wrote inside apart erase
 pub CanProgram-after : {T : Type 0} {old new : FlashState} {place : ℕ} {bytes : List ℕ} {x : T} → (q m : ℕ) → IsLawful old → Writes old new place bytes (Ok x) → place + length bytes ≤ size_of old.geometry → (q + m ≤ place) ⊎ (place + length bytes ≤ q)
     → CanProgram old q m → CanProgram new q m
 CanProgram-after q m lawful wrote inside apart can = CanProgram-kept wrote.kept (erased_after q m lawful wrote inside apart can.erased) can
+
+-- an erase leaves an erased unit
+pub erased_by : {T : Type 0} {old new : FlashState} {place : ℕ} {x : T} → IsLawful old → CanErase old place → Writes old new place (erased_unit old) (Ok x) → IfTold new.image (λ image. IsErased image place old.geometry.erase)
+erased_by {T} {old} {new} {place} lawful can wrote image told =
+    let was = told_before wrote.kept told in
+    let fits : place + old.geometry.erase ≤ length was.0 = omega (arith, CanErase-fits can, lawful.sized was.0 was.1) in
+    let is : put was.0 place (erased_unit old) ≡ image = some_is (put was.0 place (erased_unit old)) image (sym (wrote.written was.0 was.1) ∙ told) in
+    subst (λ (l : List ℕ). IsErased l place old.geometry.erase) is (IsErased-put was.0 place old.geometry.erase fits)
+
+-- a count that rose has risen since earlier and until later
+pub Rose-since : {early before now : ℕ} → early ≤ before → Rose before now → Rose early now
+Rose-since le rose = ⊎_elim (λ more. inl (omega (arith, le, more))) (λ end. inr end) rose
+
+pub Rose-until : {before now late : ℕ} → Rose before now → now ≤ late → Rose before late
+Rose-until rose le = ⊎_elim (λ more. inl (omega (arith, le, more))) (λ end. inr (omega (arith, le, end))) rose

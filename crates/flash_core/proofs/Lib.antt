@@ -1,3 +1,4 @@
+pub mod GeometryLaws
 pub mod HeaderLast
 pub mod ImageLaws
 pub mod KeptLaws

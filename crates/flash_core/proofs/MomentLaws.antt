@@ -1,12 +1,12 @@
 -- How a run of device calls goes on, for what is said of each of its moments.
-use Rattle.std.proofs.Common.{◌≡◌, ◌⊎◌, ℕ, ◌+◌, ◌≤◌, List, length, inl, inr, ⊎_elim, refl, sym, ◌∙◌, arith, subst}
-use Rattle.std.specs.Prelude.{Option, Some, None, Result, IsTrue}
+use Rattle.std.proofs.Common.{◌≡◌, ℕ, ◌+◌, ◌≤◌, List, length, inl, inr, ⊎_elim, refl, sym, ◌∙◌, arith, subst}
+use Rattle.std.specs.Prelude.{Option, Some, None, Result, Ok, Err, OnErr, IsTrue}
 use Rattle.flash_core.specs.declared.flash.FlashFault.{FlashFault}
 use Rattle.flash_core.specs.Calls.{IsMomentOf, IsMomentWithin, OnlyReads, Writes}
-use Rattle.flash_core.specs.Images.{Torn}
-use Rattle.flash_core.specs.Moments.{EachMoment, Unless}
-use Rattle.flash_core.specs.State.{DeviceCall, FlashState, IsLawful}
-use Rattle.flash_core.proofs.ImageLaws.{Torn-put}
+use Rattle.flash_core.specs.Images.{put, Torn}
+use Rattle.flash_core.specs.Moments.{EachMoment, FailedInside, Unless}
+use Rattle.flash_core.specs.State.{DeviceCall, FlashState, IfTold, IsLawful, call_at}
+use Rattle.flash_core.proofs.ImageLaws.{Torn-put, after_of_call, before_of_call}
 
 -- before the first call, where the image of now has R
 pub begun : {s : FlashState} {image : List ℕ} (R : Option DeviceCall → List ℕ → Type 0) → IsLawful s → s.image ≡ Some image → ((call : Option DeviceCall) → R call image) → EachMoment s s R
@@ -48,6 +48,26 @@ weakened S implies run = record {
   each = λ call c left. implies call c (run.each call c left);
   before = λ t call c le left. ⊎_elim (λ was. inl was) (λ has. inr (implies call c has)) (run.before t call c le left);
 }
+
+some_is : {X : Type 0} (x y : X) → Some x ≡ Some y → x ≡ y
+some_is x y same = cc
+
+-- a program or erase that may have failed, each of whose moments has R
+pub failed_inside : {T : Type 0} {mid new : FlashState} {place : ℕ} {bytes image : List ℕ} (R : Option DeviceCall → List ℕ → Type 0) (result : Result T FlashFault) → Writes mid new place bytes result → mid.image ≡ Some image → place + length bytes ≤ length image
+    → R None image → ((call : Option DeviceCall) (c : List ℕ) → IsMomentWithin image place bytes call c → R call c) → OnErr result (IfTold new.image (FailedInside new R))
+failed_inside {T} {mid} {new} {place} {bytes} {image} R (Ok x) wrote told fits was here = tt
+failed_inside {T} {mid} {new} {place} {bytes} {image} R (Err fault) wrote told fits was here = λ left stands.
+    let call : DeviceCall = call_at image place bytes in
+    let torn : Torn place (length bytes) image left = wrote.failed image told left stands in
+    record {
+      call = call;
+      before = subst (λ (l : List ℕ). R None l) (sym (before_of_call image place bytes fits left torn)) was;
+      after = subst (λ (l : List ℕ). R None l) (sym (after_of_call image place bytes fits left torn)) (here None (put image place bytes) refl);
+      inside = here (Some call) left (refl, torn);
+      told = λ tells. ⊎_elim (λ this. inl this)
+          (λ same. inr (subst (λ (l : List ℕ). R None l) (some_is image left (sym told ∙ sym same.0 ∙ stands)) was))
+          (wrote.torn (subst IsTrue wrote.kept.tells_torn tells) image told);
+    }
 
 -- where moments are told, the image that stands has R
 pub at_the_end : {old new : FlashState} {R : Option DeviceCall → List ℕ → Type 0} {image : List ℕ} → EachMoment old new R → IsLawful new → IsTrue new.tells_moments → new.image ≡ Some image → (call : Option DeviceCall) × R call image

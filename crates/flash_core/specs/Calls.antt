@@ -1,8 +1,7 @@
 -- What the calls of a device require of it and do to it.
-use Rattle.std.specs.Prelude.{◌≡◌, ◌⊎◌, ℕ, ◌+◌, ◌*◌, ◌<◌, ◌≤◌, ◌^◌, ◌↔◌, List, length, replicate, IsTrue, Option, Some, None, Result, IsOk, IfErr, OnOk, OnErr, is_some, MatchResult}
+use Rattle.std.specs.Prelude.{◌≡◌, ◌⊎◌, ℕ, ◌+◌, ◌<◌, ◌≤◌, ◌^◌, ◌↔◌, List, length, replicate, IsTrue, Option, Some, None, Result, IsOk, IfErr, OnOk, OnErr, is_some}
 use Rattle.flash_core.specs.declared.flash.FlashFault.{FlashFault}
 use Rattle.flash_core.specs.declared.flash.FlashFault.TheVariants.{Read, Write}
-use Rattle.flash_core.specs.declared.geometry.Geometry.{Geometry}
 use Rattle.flash_core.specs.Images.{part, put, IsErased, Torn}
 use Rattle.flash_core.specs.Sizes.{size_of}
 use Rattle.flash_core.specs.State.{DeviceCall, FlashState, IfTold, call_at}
@@ -67,7 +66,7 @@ pub record OnlyReads (old new : FlashState) : Type 0 where
 pub record Reads {T : Type 0} (old new : FlashState) (place : ℕ) (buf : List ℕ) (result : Result T FlashFault) : Type 0 where
   pub kept : OnlyReads old new
   pub steady : old.steady → IsOk result
-  pub bytes : OnOk result (IfTold old.image (λ image. buf ≡ part image place (length buf)))
+  pub bytes : IfTold old.image (λ image. OnOk result (buf ≡ part image place (length buf)))
   pub cause : IfErr result (λ fault. (fault ≡ Read) × Rose old.read_faults new.read_faults)
 
 -- A moment of a program or erase of these bytes at this place: inside it, or behind it when whole.
@@ -98,10 +97,10 @@ pub record Writes {T : Type 0} (old new : FlashState) (place : ℕ) (bytes : Lis
   pub steady : old.steady → OnOk result new.steady
   pub sound : old.sound → IsOk result
   pub cause : IfErr result (λ fault. (fault ≡ Write) × Rose old.write_faults new.write_faults)
-  pub written : OnOk result (IfTold old.image (λ image. new.image ≡ Some (put image place bytes)))
-  pub failed : OnErr result (IfTold old.image (λ image. IfTold new.image (λ left. Torn place (length bytes) image left)))
+  pub written : IfTold old.image (λ image. OnOk result (new.image ≡ Some (put image place bytes)))
+  pub failed : IfTold old.image (λ image. OnErr result (IfTold new.image (λ left. Torn place (length bytes) image left)))
   -- no moment is told anew but those of this call
   pub adds : IfTold old.image (λ image. (t : ℕ) (call : Option DeviceCall) (c : List ℕ) → t ≤ old.moment → new.left_since t call c → old.left_since t call c ⊎ IsMomentOf image place bytes result call c)
   pub tells : IsTrue old.tells_moments → IfTold old.image (λ image. TellsMoments old new image place bytes result)
   pub torn_stands : OnOk result (new.torn ≡ old.torn)
-  pub torn : IsTrue old.tells_torn → OnErr result (IfTold old.image (λ image. TellsTorn old new (call_at image place bytes)))
+  pub torn : IsTrue old.tells_torn → IfTold old.image (λ image. OnErr result (TellsTorn old new (call_at image place bytes)))

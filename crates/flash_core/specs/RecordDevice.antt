@@ -1,5 +1,5 @@
 -- A device in memory that keeps no writes.
-use Rattle.std.specs.Prelude.{◌≡◌, ℕ, List, [], length, true, false, Some, None}
+use Rattle.std.specs.Prelude.{◌≡◌, ℕ, List, [], length, false, Some, None}
 use Rattle.std.proofs.Common.{◌∙◌, ap, sym}
 use mathlib.Core.Bool.{false≢true}
 use Rattle.flash_core.specs.declared.geometry.Geometry.{Geometry}

@@ -3,7 +3,9 @@ ghost use Rattle.std.specs.Prelude.{◌≡◌, ◌<◌, ◌≤◌, ◌+◌, ◌^
 ghost use Rattle.flash_core.specs.Up.{up};
 
 const MAX_PROG: u32 = 4_096;
+
 const MAX_ERASE: u32 = 65_536;
+
 const MAX_SIZE: u64 = 16_777_216;
 
 /// How a device is divided. Nothing is promised of one that isn't valid.

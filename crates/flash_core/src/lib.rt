@@ -14,3 +14,6 @@ pub use flash::{Flash, FlashFault};
 pub use geometry::{Geometry, round_up};
 pub use record_flash::{NoMemory, RecordFlash};
 pub use two_programs::program_payload_then_header;
+
+#[cfg(test)]
+mod tests;

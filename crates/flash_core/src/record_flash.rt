@@ -22,11 +22,7 @@ impl RecordFlash {
     ghost use Rattle.flash_core.specs.RecordDevice.{IsMemoryOf};
 
     /// A device with this image.
-    pub fn new(
-        _alloc: Global,
-        geometry: Geometry,
-        image: Vec<u8>,
-    ) -> Result<RecordFlash, NoMemory>
+    pub fn new(_alloc: Global, geometry: Geometry, image: Vec<u8>) -> Result<RecordFlash, NoMemory>
         requires valid { IsValid geometry }
         requires sized { length image.items ≡ size_of geometry }
         ensures { IfOk result (λ flash. IsMemoryOf (⟦<RecordFlash as Flash>⟧.state flash) geometry image.items) }
@@ -83,7 +79,11 @@ impl Flash for RecordFlash {
     }
 
     fn erase(&mut self, place: u32) -> Result<(), FlashFault> {
-        clear(&mut self.image, place as usize, self.geometry.erase as usize);
+        clear(
+            &mut self.image,
+            place as usize,
+            self.geometry.erase as usize,
+        );
         Ok(())
     }
 }
