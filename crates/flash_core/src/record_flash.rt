@@ -21,11 +21,12 @@ pub struct RecordFlash {
 impl RecordFlash {
     ghost use Rattle.flash_core.specs.RecordDevice.{IsMemoryOf};
 
-    /// A device with this image.
+    /// A device with this image. It takes no memory yet, and never answers `NoMemory`.
     pub fn new(_alloc: Global, geometry: Geometry, image: Vec<u8>) -> Result<RecordFlash, NoMemory>
         requires valid { IsValid geometry }
         requires sized { length image.items ≡ size_of geometry }
-        ensures { IfOk result (λ flash. IsMemoryOf (⟦<RecordFlash as Flash>⟧.state flash) geometry image.items) }
+        ensures { IfOk result (λ flash.
+            IsMemoryOf (⟦<RecordFlash as Flash>⟧.state flash) geometry image.items) }
     {
         Ok(RecordFlash { geometry, image })
     }

@@ -24,7 +24,8 @@ pub fn program_payload_then_header<F: Flash>(
     ensures kept { Keeps (F.state flash.old) (F.state flash.new) }
     ensures steady { (F.state flash.old).steady → OnOk result (F.state flash.new).steady }
     ensures sound { (F.state flash.old).sound → IsOk result }
-    ensures cause { IfErr result (λ fault. (fault ≡ FlashFault.Write) × Rose (F.state flash.old).write_faults (F.state flash.new).write_faults) }
+    ensures cause { IfErr result (λ fault. (fault ≡ FlashFault.Write)
+        × Rose (F.state flash.old).write_faults (F.state flash.new).write_faults) }
     ensures written { IfTold (F.state flash.old).image (λ image.
         OnOk result ((F.state flash.new).image ≡ Some (both_put image place header.now payload.now))) }
     ensures torn_stands { OnOk result ((F.state flash.new).torn ≡ (F.state flash.old).torn) }
@@ -38,6 +39,8 @@ pub fn program_payload_then_header<F: Flash>(
     ensures in_order { IfTold (F.state flash.old).image (λ image.
         EachMoment (F.state flash.old) (F.state flash.new)
         (IsHeaderLast image place header.now payload.now)) }
+
+    // After a fault the image that stands is one of a moment inside the program that failed.
     ensures failed { IfTold (F.state flash.old).image (λ image. OnErr result (IfTold (F.state flash.new).image
         (FailedInside (F.state flash.new) (IsHeaderLast image place header.now payload.now)))) }
 {
