@@ -4,8 +4,8 @@ use Rattle.std.specs.Prelude.{Option}
 use Rattle.flash_core.specs.Images.{Torn}
 use Rattle.flash_core.specs.State.{DeviceCall}
 use Rattle.flash_core.specs.TwoPrograms.{IsHeaderLast, payload_put}
-use Rattle.flash_core.proofs.ImageLaws.{Torn-put, Torn-refl, Torn-trans, Torn-widen, length-put}
-use Rattle.flash_core.proofs.MomentLaws.{Torn-moment}
+use Rattle.flash_core.proofs.ImageLaws.{Torn-put, Torn-refl, Torn-widen, length-put}
+use Rattle.flash_core.proofs.MomentLaws.{Torn-moment_within}
 
 -- at no moment a byte outside the two ranges differs
 pub Torn-header_last : (image : List ℕ) (place : ℕ) (header payload : List ℕ) (call : Option DeviceCall) (c : List ℕ) → place + length header + length payload ≤ length image
@@ -13,12 +13,12 @@ pub Torn-header_last : (image : List ℕ) (place : ℕ) (header payload : List �
 Torn-header_last image place header payload call c fits (inl same) =
     subst (λ (l : List ℕ). Torn place (length header + length payload) image l) (sym same) (Torn-refl place (length header + length payload) image)
 Torn-header_last image place header payload call c fits (inr (inl moment)) =
-    Torn-widen (place + length header) (length payload) place (length header + length payload) (omega arith) (omega arith)
-    (Torn-moment image (place + length header) payload call c fits moment)
+    let wide : ℕ = length header + length payload in
+    Torn-moment_within place wide image image (place + length header) payload call c (Torn-refl place wide image) (omega arith) (omega arith) fits moment
 Torn-header_last image place header payload call c fits (inr (inr moment)) =
     let behind : ℕ = place + length header in
+    let wide : ℕ = length header + length payload in
     let long = length-put image behind payload fits in
-    Torn-trans
-    (Torn-widen behind (length payload) place (length header + length payload) (omega arith) (omega arith) (Torn-put image behind payload fits))
-    (Torn-widen place (length header) place (length header + length payload) (omega arith) (omega arith)
-    (Torn-moment (payload_put image place header payload) place header call c (omega (arith, fits, long)) moment))
+    Torn-moment_within place wide image (payload_put image place header payload) place header call c
+    (Torn-widen behind (length payload) place wide (omega arith) (omega arith) (Torn-put image behind payload fits))
+    (omega arith) (omega arith) (omega (arith, fits, long)) moment

@@ -1,6 +1,7 @@
 -- What runs of calls keep of a device.
 use Rattle.std.proofs.Common.{◌≡◌, ◌⊎◌, ℕ, ◌+◌, ◌*◌, ◌≤◌, List, length, inl, inr, ⊎_elim, refl, sym, ◌∙◌, ap, subst, arith}
 use Rattle.std.specs.Prelude.{Option, Some, None, Ok, is_some}
+use Rattle.std.proofs.lemmas.List.{length-replicate}
 use mathlib.Core.Bool.{false≢true}
 use Rattle.flash_core.specs.declared.geometry.Geometry.{Geometry}
 use Rattle.flash_core.specs.Calls.{CanErase, CanProgram, CanRead, Keeps, OnlyReads, Rose, Writes, erased_unit}
@@ -8,7 +9,7 @@ use Rattle.flash_core.specs.Images.{put, IsErased}
 use Rattle.flash_core.specs.Sizes.{size_of}
 use Rattle.flash_core.specs.State.{FlashState, IfTold, IsLawful}
 use Rattle.flash_core.specs.Up.{IsMultipleOf}
-use Rattle.flash_core.proofs.ImageLaws.{IsErased-Torn, IsErased-put, Torn-put}
+use Rattle.flash_core.proofs.ImageLaws.{IsErased-Torn, IsErased-put, IsErased-within, Torn-put}
 use Rattle.flash_core.proofs.Units.{IsMultipleOf-mul, unit_fits}
 
 pub Keeps-refl : (s : FlashState) → Keeps s s
@@ -117,6 +118,21 @@ CanProgram-kept {old} {new} {place} {n} kept erased can = record {
 -- the whole unit lies in the image
 pub CanErase-fits : {s : FlashState} {place : ℕ} → CanErase s place → place + s.geometry.erase ≤ size_of s.geometry
 CanErase-fits {s} {place} can = unit_fits s.geometry.erase place (size_of s.geometry) can.place_aligned (IsMultipleOf-mul s.geometry.erase (2 * s.geometry.units_per_area)) can.inside
+
+-- whole units within an erased range of the image
+pub CanProgram-within : (s : FlashState) (place n q m : ℕ) → IfTold s.image (λ image. IsErased image place n) → place + n ≤ size_of s.geometry → place ≤ q → q + m ≤ place + n
+    → IsMultipleOf s.geometry.prog q → IsMultipleOf s.geometry.prog m → s.geometry.prog ≤ m → m ≤ s.geometry.erase → CanProgram s q m
+CanProgram-within s place n q m erased inside from to place_aligned length_aligned at_least at_most = record {
+  place_aligned = place_aligned;
+  length_aligned = length_aligned;
+  at_least = at_least;
+  at_most = at_most;
+  inside = omega (arith, inside, to);
+  erased = λ image told. IsErased-within image place n q m (erased image told) from to;
+}
+
+pub length-erased_unit : (s : FlashState) → length (erased_unit s) ≡ s.geometry.erase
+length-erased_unit s = length-replicate s.geometry.erase _
 
 some_is : {X : Type 0} (x y : X) → Some x ≡ Some y → x ≡ y
 some_is x y same = cc

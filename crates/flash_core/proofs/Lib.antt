@@ -3,4 +3,5 @@ pub mod HeaderLast
 pub mod ImageLaws
 pub mod KeptLaws
 pub mod MomentLaws
+pub mod Powers
 pub mod Units

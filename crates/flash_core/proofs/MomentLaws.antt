@@ -6,7 +6,7 @@ use Rattle.flash_core.specs.Calls.{IsMomentOf, IsMomentWithin, OnlyReads, Writes
 use Rattle.flash_core.specs.Images.{put, Torn}
 use Rattle.flash_core.specs.Moments.{EachMoment, FailedInside, Unless}
 use Rattle.flash_core.specs.State.{DeviceCall, FlashState, IfTold, IsLawful, call_at}
-use Rattle.flash_core.proofs.ImageLaws.{Torn-put, after_of_call, before_of_call}
+use Rattle.flash_core.proofs.ImageLaws.{Torn-put, Torn-trans, Torn-widen, after_of_call, before_of_call}
 
 -- before the first call, where the image of now has R
 pub begun : {s : FlashState} {image : List ℕ} (R : Option DeviceCall → List ℕ → Type 0) → IsLawful s → s.image ≡ Some image → ((call : Option DeviceCall) → R call image) → EachMoment s s R
@@ -83,3 +83,9 @@ Unless-holds Q P (Some call) c holds = λ premise. holds
 pub Torn-moment : (image : List ℕ) (place : ℕ) (bytes : List ℕ) (call : Option DeviceCall) (c : List ℕ) → place + length bytes ≤ length image → IsMomentWithin image place bytes call c → Torn place (length bytes) image c
 Torn-moment image place bytes None c fits is = subst (λ (l : List ℕ). Torn place (length bytes) image l) (sym is) (Torn-put image place bytes fits)
 Torn-moment image place bytes (Some call) c fits moment = moment.1
+
+-- the same within a wider range, for an image that differs from the first in that range alone
+pub Torn-moment_within : (wide_place wide_n : ℕ) (first image : List ℕ) (place : ℕ) (bytes : List ℕ) (call : Option DeviceCall) (c : List ℕ) → Torn wide_place wide_n first image → wide_place ≤ place → place + length bytes ≤ wide_place + wide_n → place + length bytes ≤ length image
+    → IsMomentWithin image place bytes call c → Torn wide_place wide_n first c
+Torn-moment_within wide_place wide_n first image place bytes call c so_far from to fits moment =
+    Torn-trans so_far (Torn-widen place (length bytes) wide_place wide_n from to (Torn-moment image place bytes call c fits moment))
