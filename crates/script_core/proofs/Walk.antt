@@ -1,0 +1,36 @@
+-- Reading a text line by line, as a loop does.
+use Rattle.std.proofs.Common.{◌≡◌, ℕ, ◌+◌, ◌<◌, List, [], ◌∷◌, length, Ok, Err, sym, ap, ◌∙◌, arith}
+use Rattle.std.proofs.lemmas.List.Splits.{length-slice_split}
+use Rattle.std.proofs.lemmas.List.Sums.{count_by-le-length}
+use Rattle.std.specs.Prelude.{◌==◌}
+use Rattle.script_core.specs.declared.error.ScriptError.{ScriptError}
+use Rattle.script_core.specs.declared.error.ScriptError.TheVariants as faults
+use Rattle.script_core.specs.declared.line.Line.{Line}
+use Rattle.script_core.specs.declared.script.ScriptMode.{ScriptMode}
+use Rattle.script_core.specs.Grammar.{lines_of}
+use Rattle.script_core.specs.Reading.{Outcome, Ends, read_one, read_from, then_read}
+
+pub goes_on : (mode : ScriptMode) (number : ℕ) (lines new : List Line) (text : List ℕ) (left later : List (List ℕ)) (all : Outcome) → left ≡ text ∷ later
+    → read_one mode number lines text later ≡ Ok new → read_from mode number lines left ≡ all → read_from mode (number + 1) new later ≡ all
+unfolding read_from
+goes_on mode number lines new text left later all next one so_far =
+    let step : read_from mode number lines (text ∷ later) ≡ read_from mode (number + 1) new later = ap (λ (read : Outcome). then_read read (λ more. read_from mode (number + 1) more later)) one in
+    sym step ∙ ap (read_from mode number lines) (sym next) ∙ so_far
+
+pub ends_at : (fault : ScriptError) (mode : ScriptMode) (number : ℕ) (lines : List Line) (text : List ℕ) (left later : List (List ℕ)) (all : Outcome) → left ≡ text ∷ later
+    → Ends fault (read_one mode number lines text later) → read_from mode number lines left ≡ all → Ends fault all
+unfolding read_from
+ends_at faults.Memory mode number lines text left later all next one so_far = tt
+ends_at (faults.BadLine line) mode number lines text left later all next one so_far =
+    let step : read_from mode number lines (text ∷ later) ≡ Err (faults.BadLine line) = ap (λ (read : Outcome). then_read read (λ more. read_from mode (number + 1) more later)) one in
+    sym so_far ∙ ap (read_from mode number lines) next ∙ step
+ends_at (faults.TooManyCalls line) mode number lines text left later all next one so_far =
+    let step : read_from mode number lines (text ∷ later) ≡ Err (faults.TooManyCalls line) = ap (λ (read : Outcome). then_read read (λ more. read_from mode (number + 1) more later)) one in
+    sym so_far ∙ ap (read_from mode number lines) next ∙ step
+
+pub is_done : (mode : ScriptMode) (number : ℕ) (lines : List Line) (left : List (List ℕ)) (all : Outcome) → left ≡ [] → read_from mode number lines left ≡ all → all ≡ Ok lines
+unfolding read_from
+is_done mode number lines left all none so_far = sym so_far ∙ ap (read_from mode number lines) none
+
+pub length-lines_of-le : (text : List ℕ) → length (lines_of text) < length text + 2
+length-lines_of-le text = omega (arith, length-slice_split (λ b. b == 10) text, count_by-le-length (λ b. b == 10) text)
