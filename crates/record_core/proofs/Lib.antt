@@ -1,0 +1,3 @@
+pub mod CrcByTable
+pub mod HeaderLemmas
+pub mod SizeLemmas

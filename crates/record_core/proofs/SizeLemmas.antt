@@ -1,0 +1,8 @@
+-- Padding takes less than one more program unit.
+use Rattle.std.proofs.Common.{ℕ, ◌+◌, ◌-◌, ◌≤◌}
+use Rattle.std.proofs.Math.Nat.{div-mul-le_self}
+use Rattle.kv_model.specs.Sizes.{up}
+
+pub up-most : (prog x : ℕ) → up prog x ≤ x + (prog - 1)
+unfolding up
+up-most prog x = div-mul-le_self (x + (prog - 1)) prog
