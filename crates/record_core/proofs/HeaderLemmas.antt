@@ -1,10 +1,11 @@
 -- A header and its fields in the bytes.
 use Rattle.std.proofs.Common.{◌≡◌, ℕ, ◌≤◌, ◌<◌, ◌^◌, List, [], ◌++◌, length, drop, slice_range, codes, refl, sym, ◌∙◌, ap, subst, arith, ⊎_elim}
-use Rattle.std.specs.Int.{w16, w32, to_le_bytes}
+use Rattle.std.specs.Int.{w16, w32, to_le_bytes, from_le_bytes}
 use Rattle.std.proofs.lemmas.List.{drop_all}
 use Rattle.std.proofs.lemmas.List.Folds.{drop_split}
+use Rattle.std.proofs.lemmas.Nat.{from_le_bytes-to_le_bytes_2, from_le_bytes-to_le_bytes_4}
 use Rattle.record_core.specs.declared.header.Header.{Header}
-use Rattle.record_core.specs.Header.{header_front, header_bytes, HasFields, HasForm, IsHeader}
+use Rattle.record_core.specs.Header.{header_front, header_bytes, HasFields, HasForm, IsHeader, IsValid}
 
 in_fields : (bytes : List ℕ) → length bytes ≡ 24 → bytes ≡ slice_range bytes 0 4 ++ (slice_range bytes 4 6 ++ (slice_range bytes 6 8 ++ (slice_range bytes 8 12 ++ (slice_range bytes 12 14 ++ (slice_range bytes 14 16 ++ (slice_range bytes 16 20 ++ (slice_range bytes 20 24 ++ [])))))))
 in_fields bytes long =
@@ -45,3 +46,25 @@ header_has_fields bytes header is = subst (λ (l : List ℕ). HasFields l header
 
 pub flags_fit : {flags key_size value_size : ℕ} → IsHeader flags key_size value_size → flags < 2 ^ 32
 flags_fit valid = ⊎_elim (λ plain. omega arith) (⊎_elim (λ write_once. omega arith) (λ remove. omega arith)) valid.kind
+
+pub same_u16 : (m n : ℕ) → m < 2 ^ 16 → n < 2 ^ 16 → to_le_bytes w16 m ≡ to_le_bytes w16 n → m ≡ n
+same_u16 m n hm hn same = sym (from_le_bytes-to_le_bytes_2 m hm) ∙ ap (from_le_bytes w16) same ∙ from_le_bytes-to_le_bytes_2 n hn
+
+same_u32 : (m n : ℕ) → m < 2 ^ 32 → n < 2 ^ 32 → to_le_bytes w32 m ≡ to_le_bytes w32 n → m ≡ n
+same_u32 m n hm hn same = sym (from_le_bytes-to_le_bytes_4 m hm) ∙ ap (from_le_bytes w32) same ∙ from_le_bytes-to_le_bytes_4 n hn
+
+-- two valid headers with one spelling have the same sizes and flags
+pub record SameSizes (a b : Header) : Type 0 where
+  pub flags : a.flags ≡ b.flags
+  pub key_size : a.key_size ≡ b.key_size
+  pub value_size : a.value_size ≡ b.value_size
+
+pub same_sizes : (a b : Header) → IsValid a → IsValid b → header_bytes a ≡ header_bytes b → SameSizes a b
+same_sizes a b valid_a valid_b same =
+    let of_a : HasFields (header_bytes a) a = spelling_has_fields a in
+    let of_b : HasFields (header_bytes a) b = header_has_fields (header_bytes a) b same in
+    record {
+      flags = same_u32 a.flags b.flags (flags_fit valid_a) (flags_fit valid_b) (sym of_a.flags ∙ of_b.flags);
+      key_size = same_u16 a.key_size b.key_size (omega (arith, valid_a.key_most)) (omega (arith, valid_b.key_most)) (sym of_a.key_size ∙ of_b.key_size);
+      value_size = same_u32 a.value_size b.value_size (omega (arith, valid_a.value_most)) (omega (arith, valid_b.value_most)) (sym of_a.value_size ∙ of_b.value_size);
+    }

@@ -1,2 +1,5 @@
 pub mod Header
+pub mod Log
+pub mod Mounts
 pub mod Record
+pub mod Written

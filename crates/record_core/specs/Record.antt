@@ -4,6 +4,7 @@ use Rattle.std.specs.Int.{w16, w32, to_le_bytes}
 use Rattle.kv_model.specs.Keys.{is_key, master_key}
 use Rattle.kv_model.specs.Crc.{crc_of}
 use Rattle.kv_model.specs.Sizes.{up}
+use Rattle.record_core.specs.declared.header.Header.{Header}
 use Rattle.record_core.specs.Header.{IsHeader, header_front, header_bytes}
 
 -- bytes 0xFF up to whole program units
@@ -14,10 +15,13 @@ padded prog bytes = bytes ++ replicate (up prog (length bytes) - length bytes) 2
 abbrev pub record_crc : ℕ → List ℕ → List ℕ → ℕ
 record_crc flags key value = crc_of (header_front flags (length key) (length value) ++ key ++ value)
 
+-- what the header says
+abbrev pub header_of : ℕ → List ℕ → List ℕ → Header
+header_of flags key value = record { flags = flags; key_size = length key; value_size = length value; crc = record_crc flags key value }
+
 -- the header in whole program units
 unfoldable pub record_header : ℕ → ℕ → List ℕ → List ℕ → List ℕ
-record_header prog flags key value = padded prog
-    (header_bytes (record { flags = flags; key_size = length key; value_size = length value; crc = record_crc flags key value }))
+record_header prog flags key value = padded prog (header_bytes (header_of flags key value))
 
 -- the key and the value in whole program units
 unfoldable pub record_payload : ℕ → List ℕ → List ℕ → List ℕ

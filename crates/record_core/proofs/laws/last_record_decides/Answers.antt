@@ -1,0 +1,12 @@
+use Rattle.std.proofs.Common.{refl}
+use Rattle.record_core.proofs.LogLemmas.{map_of-append, get-applied_stored, get-applied_removed, get-applied_other}
+use Rattle.record_core.proofs.laws.last_record_decides.Goals as goal
+
+pub returns : goal.returns
+returns c = record {
+  none = refl;
+  append = map_of-append;
+  stored = get-applied_stored;
+  removed = get-applied_removed;
+  others = get-applied_other;
+}
