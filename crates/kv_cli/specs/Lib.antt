@@ -1,0 +1,5 @@
+pub mod Images
+pub mod Inputs
+pub mod Outcomes
+pub mod Replays
+pub mod Words

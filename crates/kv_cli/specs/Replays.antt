@@ -1,0 +1,51 @@
+-- What a replay of a script is: a legal history from the empty store, of the calls of its lines in order.
+use Rattle.std.specs.Prelude.{◌≡◌, ℕ, List, [], ◌∷◌, map, All}
+use Rattle.std.specs.List.{flat_map}
+use Rattle.std.specs.FinMap.{empty}
+use Rattle.kv_model.specs.declared.call.Call.{Call}
+use Rattle.kv_model.specs.declared.call.Entry.{Entry}
+use Rattle.kv_model.specs.declared.call.Reply.{Reply}
+use Rattle.kv_model.specs.declared.call.Reply.TheVariants.{Refused}
+use Rattle.kv_model.specs.declared.error.KvError.TheVariants as error
+use Rattle.kv_model.specs.StoreState.{StoreState, fresh_state}
+use Rattle.kv_model.specs.PlainStep.{Constants}
+use Rattle.kv_model.specs.History.{IsLegal, plain_rules}
+use Rattle.script_core.specs.declared.line.Act.{Act}
+use Rattle.script_core.specs.declared.line.Act.TheVariants.{Do, Cut}
+use Rattle.script_core.specs.declared.line.Line.{Line}
+
+-- the geometry 8:4096:16 and all 32 bits of a CRC as the hash
+abbrev pub run_constants : Constants
+run_constants = record { hash_bits = 32; prog = 8; room = 65496 }
+
+-- running, with an empty map, no set, no iterator and the first vector
+abbrev pub first_state : StoreState
+first_state = fresh_state empty empty 1 0
+
+-- who called what
+abbrev pub called : Entry → ℕ × Call
+called entry = (entry.who, entry.call)
+
+abbrev pub asked_by : ℕ → Act → List (ℕ × Call)
+asked_by who (Do call) = (who, call) ∷ []
+asked_by who (Cut side n pattern) = []
+
+-- a line that cuts the power calls nothing
+abbrev pub asked : Line → List (ℕ × Call)
+asked line = asked_by line.who line.act
+
+-- a reply that tells of no fault of the device, of no stop after one, and of no want of memory
+abbrev pub IsFaultless : Reply → Type 0
+IsFaultless (Refused error.Stopped) = ⊥
+IsFaultless (Refused error.ReadFault) = ⊥
+IsFaultless (Refused error.WriteFault) = ⊥
+IsFaultless (Refused (error.Corrupt stored computed)) = ⊥
+IsFaultless (Refused error.Memory) = ⊥
+IsFaultless reply = Unit {0}
+
+-- each call is that of a line, in order, and follows from those before it
+pub record IsReplayOf (lines : List Line) (entries : List Entry) : Type 0 where
+  pub last : StoreState
+  pub legal : IsLegal (plain_rules run_constants) first_state entries last
+  pub in_order : map called entries ≡ flat_map asked lines
+  pub faultless : All (λ (entry : Entry). IsFaultless entry.reply) entries

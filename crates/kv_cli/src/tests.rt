@@ -1,0 +1,176 @@
+use crate::tool::{Report, tool};
+use kv_host::MemHost;
+use std::alloc::Global;
+use std::process::Abort;
+use std::rc::RcStr;
+use std::test::Fail;
+
+/// A host takes this many bytes, a script over its limit among them.
+const ROOM: u32 = 2_400_000;
+
+/// What the words and the files are, which calls of the host fail, and what must come.
+#[derive(Drop)]
+struct Case<'a> {
+    words: &'a [&'a str],
+    script: Option<&'a [u8]>,
+    image: Option<&'a [u8]>,
+    failing: &'a [u32],
+    status: u8,
+    printed: &'a [u8],
+}
+
+const REPLAY: [&str; 4] = ["replay", "p", "-", "s"];
+
+fn host_of(alloc: Global, case: &Case<'_>) -> Result<MemHost, Fail> {
+    let mut host = MemHost::new(alloc, case.failing.to_vec(alloc)?, ROOM)?;
+    if let Some(script) = case.script {
+        host.put_file("s", script)?;
+    }
+    if let Some(image) = case.image {
+        host.put_file("p", image)?;
+    }
+    Ok(host)
+}
+
+fn report_of(alloc: Global, case: &Case<'_>, host: &mut MemHost) -> Result<Report, Fail> {
+    let mut words = Vec::new(alloc);
+    for word in case.words {
+        words.push(RcStr::from_str(alloc, word)?)?;
+    }
+    Ok(tool(alloc, &words, host))
+}
+
+/// Tries a case, in which no call of a store is made.
+fn check<R: Abort>(rt: &R, alloc: Global, case: &Case<'_>) -> Result<(), Fail> {
+    let mut host = host_of(alloc, case)?;
+    let report = report_of(alloc, case, &mut host)?;
+    assert_eq!(rt; report.status, case.status);
+    assert_eq!(rt; host.printed(), case.printed);
+    assert!(rt; report.journal.entries().is_empty());
+    assert!(rt; report.primary.as_slice().is_empty());
+    assert!(rt; host.file("p") == case.image, "the image stands");
+    assert!(rt; host.file("s") == case.script, "the script stands");
+    Ok(())
+}
+
+#[test]
+fn words_of_another_form_are_refused(rt: HostRuntime) -> Result<(), Fail> {
+    let wrong: [&[&str]; 12] = [
+        &[],
+        &[""],
+        &["replay"],
+        &["replay", "p", "-"],
+        &["replay", "p", "-", "s", "s"],
+        &["run", "p", "-", "s"],
+        &["Replay", "p", "-", "s"],
+        &["replay", "p", "r", "s"],
+        &["replay", "p", "--", "s"],
+        &["replay", "-", "-", "s"],
+        &["replay", "-p", "-", "s"],
+        &["replay", "p", "-", "-s"],
+    ];
+    for words in wrong {
+        let case = Case {
+            words,
+            script: None,
+            image: None,
+            failing: &[],
+            status: 1,
+            printed: b"refused: words\n",
+        };
+        check(&rt, rt.alloc(), &case)?;
+    }
+    Ok(())
+}
+
+#[test]
+fn scripts_that_are_none_are_refused(rt: HostRuntime) -> Result<(), Fail> {
+    let alloc = rt.alloc();
+    let too_long = vec![in alloc; b'#'; 2_097_153]?;
+    let mut too_many = Vec::new(alloc);
+    for _ in 0..8193 {
+        too_many.extend_from_slice(b"1 get a\n")?;
+    }
+    let scripts: [Option<&[u8]>; 13] = [
+        None,
+        Some(&too_long),
+        Some(&too_many),
+        Some(b"2 get a"),
+        Some(b"0 mount"),
+        Some(b"1 set a 00 w"),
+        Some(b"1 put a 00 -"),
+        Some(b"1 info a"),
+        Some(b"1 get a "),
+        Some(b"1  get a"),
+        Some(b"1 get"),
+        Some(b"1 set a 0 -"),
+        Some(b"1 get a\n01 get a\n"),
+    ];
+    for script in scripts {
+        let case = Case {
+            words: &REPLAY,
+            script,
+            image: None,
+            failing: &[],
+            status: 2,
+            printed: b"refused: script\n",
+        };
+        check(&rt, alloc, &case)?;
+    }
+    Ok(())
+}
+
+#[test]
+fn images_that_are_not_erased_are_refused(rt: HostRuntime) -> Result<(), Fail> {
+    let alloc = rt.alloc();
+    let shorter = vec![in alloc; 0xFFu8; 131_071]?;
+    let longer = vec![in alloc; 0xFFu8; 131_073]?;
+    let mut written = vec![in alloc; 0xFFu8; 131_071]?;
+    written.push(0)?;
+    let images: [Option<&[u8]>; 5] = [
+        None,
+        Some(b""),
+        Some(&shorter),
+        Some(&longer),
+        Some(&written),
+    ];
+    for image in images {
+        let case = Case {
+            words: &REPLAY,
+            script: Some(b"# nothing\n\n1 set a 00ff -\n1 get a\n"),
+            image,
+            failing: &[],
+            status: 3,
+            printed: b"refused: image\n",
+        };
+        check(&rt, alloc, &case)?;
+    }
+    Ok(())
+}
+
+#[test]
+fn a_call_of_the_host_that_fails_ends_the_work(rt: HostRuntime) -> Result<(), Fail> {
+    let alloc = rt.alloc();
+    let erased = vec![in alloc; 0xFFu8; 131_072]?;
+    let get: &[u8] = b"1 get a";
+    // the words, the script, the image, and the number of the call that fails
+    let cases: [(&[&str], Option<&[u8]>, Option<&[u8]>, u32); 5] = [
+        (&[], None, None, 1),
+        (&REPLAY, Some(get), Some(&erased), 1),
+        (&REPLAY, Some(get), Some(&erased), 2),
+        (&REPLAY, None, Some(&erased), 2),
+        (&REPLAY, Some(get), None, 3),
+    ];
+    for (words, script, image, call) in cases {
+        let case = Case {
+            words,
+            script,
+            image,
+            failing: &[call],
+            status: 4,
+            printed: b"",
+        };
+        check(&rt, alloc, &case)?;
+    }
+    Ok(())
+}
