@@ -1,0 +1,4 @@
+pub mod Entries
+pub mod WordBytes
+pub mod Rounds
+pub mod Inverses
