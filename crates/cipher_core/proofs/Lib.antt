@@ -1,0 +1,3 @@
+pub mod XorBytes
+pub mod CtrText
+pub mod Chain

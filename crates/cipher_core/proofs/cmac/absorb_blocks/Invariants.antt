@@ -1,0 +1,6 @@
+use Rattle.std.proofs.Common.{◌≡◌}
+use Rattle.cipher_core.specs.Cmac.{chained}
+use Rattle.cipher_core.proofs.cmac.absorb_blocks.Given as goal
+
+abbrev pub invariant-loop-block : goal.invariant-loop-block
+invariant-loop-block l = l.chain ≡ chained l.cipher l.fn.chain l.bytes l.block

@@ -1,0 +1,3 @@
+pub mod Ctr
+pub mod Cmac
+pub mod Salt
