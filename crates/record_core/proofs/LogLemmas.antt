@@ -1,9 +1,10 @@
 -- Records at places of an image, one behind another, and their map.
 use Rattle.std.proofs.Common.{◌≡◌, ◌⊎◌, ℕ, ◌+◌, ◌-◌, ◌≤◌, List, [], ◌∷◌, ◌++◌, length, take, drop, refl, sym, ◌∙◌, ap, subst, arith, inl, inr, ⊎_elim, min, get_or, IsTrue, add-zero, ◌≢◌, Some, None, Bool, true, false, ◌==◌, if◌then◌else◌, eq-eqb, length-append}
 use Rattle.std.proofs.lemmas.Bool.{ne_eqb}
+use Rattle.std.proofs.lemmas.Bool.{cases_lt}
 use Rattle.std.proofs.lemmas.List.{length-take, length-drop}
 use Rattle.std.proofs.Math.Seq.{take-append_seam, take-length}
-use Rattle.flash_core.specs.Images.{part, put, Torn}
+use Rattle.flash_core.specs.Images.{IsErased, part, put, Torn}
 use Rattle.flash_core.proofs.ImageLaws.{get_or-part, part-put_same, part-Torn}
 use Rattle.kv_model.specs.FlaggedMap.{FlaggedMap}
 use Rattle.kv_model.specs.Flags.{remove_flags}
@@ -180,6 +181,17 @@ module _ (prog : ℕ) (positive : 1 ≤ prog) where
       (record { valid_key = is_s.valid_key; valid_header = is_s.valid_header; spelling = at_s ∙ is_s.spelling }) in
       let none : length rest ≡ 0 = omega (arith, long_r, long_s, length-append front rest, ap (extent prog) same) in
       empty_of_length rest none
+
+  -- records up to an erased tail are all
+  pub all_before_erased : (image : List ℕ) (place limit end : ℕ) (rs : List Write) → AreRecords prog image place end rs → end ≤ limit → IsErased image end (limit - end) → AreAllRecords prog image place limit end rs
+  all_before_erased image place limit end rs records inside erased = record {
+    each = records;
+    inside = inside;
+    no_more = λ r is. elim (cases_lt end limit) [
+      | inl room ↦ absurd (no_record_erased image end r (erased end (omega arith) (omega arith)) is)
+      | inr full ↦ omega (arith, full, extent-positive r)
+    ];
+  }
 
   -- from a place all records up to the first place that has none are one list
   pub one_list : (image : List ℕ) (place limit end other_end : ℕ) (rs ss : List Write) → AreAllRecords prog image place limit end rs → AreAllRecords prog image place limit other_end ss → (rs ≡ ss) × (end ≡ other_end)

@@ -1,5 +1,5 @@
 -- Master records, and that an image mounts to one map.
-use Rattle.std.proofs.Common.{◌≡◌, ℕ, ◌+◌, ◌<◌, ◌≤◌, ◌^◌, List, length, take, get_or, refl, sym, ◌∙◌, ap, subst, arith, Some, None, add-zero}
+use Rattle.std.proofs.Common.{◌≡◌, ℕ, ◌+◌, ◌<◌, ◌≤◌, ◌^◌, List, [], ◌∷◌, ◌++◌, length, take, get_or, refl, sym, ◌∙◌, ap, subst, arith, Some, None, add-zero}
 use Rattle.std.specs.Prelude.{Option}
 use Rattle.flash_core.specs.declared.geometry.Geometry.{Geometry}
 use Rattle.flash_core.specs.Images.{part, put}
@@ -11,8 +11,8 @@ use Rattle.kv_model.specs.Keys.{master_key}
 use Rattle.kv_model.specs.Sizes.{up, master_size}
 use Rattle.kv_model.proofs.SizesLemmas.{up-ge}
 use Rattle.record_core.specs.Record.{header_of, IsMaster, master_bytes, master_value}
-use Rattle.record_core.specs.Log.{map_of}
-use Rattle.record_core.specs.Mounts.{MasterAt, active_area, ActiveRecords, Contents, Holds, Mounts}
+use Rattle.record_core.specs.Log.{AreRecords, extent, map_of}
+use Rattle.record_core.specs.Mounts.{MasterAt, active_area, ActiveRecords, Contents, Holds, Mounts, Stand, active_reads, master_reads, reads_of, record_reads}
 use Rattle.record_core.proofs.HeaderLemmas.{same_u16}
 use Rattle.record_core.proofs.RecordLemmas.{length-record_bytes, part-header, part-part, part-value}
 use Rattle.record_core.proofs.LogLemmas.{first_byte, one_list}
@@ -77,3 +77,32 @@ one_contents g image positive a b holds_a holds_b =
 pub mounts_once : (g : Geometry) (image : List ℕ) → 1 ≤ g.prog → (m n : FlaggedMap) → Mounts g image m → Mounts g image n → m ≡ n
 mounts_once g image positive m n of_m of_n =
     of_m.2 ∙ ap (λ (c : Contents). map_of c.records) (one_contents g image positive of_m.0 of_n.0 of_m.1 of_n.1) ∙ sym of_n.2
+
+-- ---- what mounting reads
+
+Stand-append : (image : List ℕ) (a b : List (ℕ × List ℕ)) → Stand image a → Stand image b → Stand image (a ++ b)
+Stand-append image [] b stand more = more
+Stand-append image (read ∷ a) b stand more = (stand.0, Stand-append image a b stand.1 more)
+
+module _ (prog : ℕ) (positive : 1 ≤ prog) (image : List ℕ) where
+  masters_stand : (area : ℕ) (version : Option ℕ) → MasterAt prog image area version → Stand image (master_reads prog area version)
+  masters_stand area None none = tt
+  masters_stand area (Some version) is = (ap (part image area) (length-master_bytes prog positive version) ∙ is.spelling, tt)
+
+  records_stand : (place end : ℕ) (rs : List Write) → AreRecords prog image place end rs → Stand image (record_reads prog place rs)
+  records_stand place end [] is = tt
+  records_stand place end (r ∷ rs) records =
+      (ap (part image place) (length-record_bytes prog positive r.flags r.key r.value) ∙ records.0.spelling, records_stand (place + extent prog r) end rs records.1)
+
+active_stand : (g : Geometry) (image : List ℕ) → 1 ≤ g.prog → (active : Option ℕ) (end : ℕ) (rs : List Write) → ActiveRecords g image active end rs → Stand image (active_reads g active rs)
+active_stand g image positive None end rs is = tt
+active_stand g image positive (Some area) end rs is = records_stand g.prog positive image _ end rs is.each
+
+-- each master and record that mounting reads stands in the image
+pub reads_stand : (g : Geometry) (image : List ℕ) → 1 ≤ g.prog → (contents : Contents) → Holds g image contents → Stand image (reads_of g contents)
+reads_stand g image positive contents holds =
+    Stand-append image (master_reads g.prog 0 contents.first ++ master_reads g.prog (area_size g) contents.second) (active_reads g (active_area contents.first contents.second) contents.records)
+    (Stand-append image (master_reads g.prog 0 contents.first) (master_reads g.prog (area_size g) contents.second)
+    (masters_stand g.prog positive image 0 contents.first holds.first_master)
+    (masters_stand g.prog positive image (area_size g) contents.second holds.second_master))
+    (active_stand g image positive (active_area contents.first contents.second) contents.end contents.records holds.active)

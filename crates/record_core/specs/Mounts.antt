@@ -1,5 +1,5 @@
 -- What an image of two areas holds, and the map to which it mounts.
-use Rattle.std.specs.Prelude.{◌≡◌, ℕ, ◌+◌, ◌*◌, ◌%◌, ◌^◌, ◌==◌, if◌then◌else◌, List, [], ◌∷◌, ◌++◌, Option, Some, None}
+use Rattle.std.specs.Prelude.{◌≡◌, ℕ, ◌+◌, ◌*◌, ◌%◌, ◌^◌, ◌==◌, if◌then◌else◌, List, [], ◌∷◌, ◌++◌, length, Option, Some, None}
 use Rattle.flash_core.specs.declared.geometry.Geometry.{Geometry}
 use Rattle.flash_core.specs.Images.{part}
 use Rattle.flash_core.specs.Sizes.{area_size}
@@ -45,15 +45,15 @@ pub record Holds (g : Geometry) (image : List ℕ) (contents : Contents) : Type 
 abbrev pub Mounts : Geometry → List ℕ → FlaggedMap → Type 0
 Mounts g image map = (contents : Contents) × Holds g image contents × (map ≡ map_of contents.records)
 
-abbrev master_reads : ℕ → ℕ → Option ℕ → List (ℕ × List ℕ)
+abbrev pub master_reads : ℕ → ℕ → Option ℕ → List (ℕ × List ℕ)
 master_reads prog area None = []
 master_reads prog area (Some version) = (area, master_bytes prog version) ∷ []
 
-abbrev record_reads : ℕ → ℕ → List Write → List (ℕ × List ℕ)
+abbrev pub record_reads : ℕ → ℕ → List Write → List (ℕ × List ℕ)
 record_reads prog place [] = []
 record_reads prog place (r ∷ rs) = (place, spelling_of prog r) ∷ record_reads prog (place + extent prog r) rs
 
-abbrev active_reads : Geometry → Option ℕ → List Write → List (ℕ × List ℕ)
+abbrev pub active_reads : Geometry → Option ℕ → List Write → List (ℕ × List ℕ)
 active_reads g None records = []
 active_reads g (Some area) records = record_reads g.prog (area * area_size g + master_size g.prog) records
 
@@ -61,3 +61,8 @@ active_reads g (Some area) records = record_reads g.prog (area * area_size g + m
 abbrev pub reads_of : Geometry → Contents → List (ℕ × List ℕ)
 reads_of g contents = master_reads g.prog 0 contents.first ++ master_reads g.prog (area_size g) contents.second
     ++ active_reads g (active_area contents.first contents.second) contents.records
+
+-- each of these stands at its place
+abbrev pub Stand : List ℕ → List (ℕ × List ℕ) → Type 0
+Stand image [] = Unit {0}
+Stand image (read ∷ reads) = (part image read.0 (length read.1) ≡ read.1) × Stand image reads

@@ -1,18 +1,18 @@
 // Laws of the definitions of records, and an example worked out by hand. Each is a function with nothing to do: its
 // contract is the law.
-ghost use Rattle.std.specs.Prelude.{◌≡◌, ◌≢◌, ◌⊎◌, ◌+◌, ◌<◌, ◌≤◌, ◌^◌, ◌++◌, [], ◌∷◌, ℕ, List, length, slice_index, IsTrue, Some, None};
+ghost use Rattle.std.specs.Prelude.{◌≡◌, ◌≢◌, ◌⊎◌, ◌+◌, ◌-◌, ◌<◌, ◌≤◌, ◌^◌, ◌++◌, [], ◌∷◌, ℕ, List, length, slice_index, IsTrue, Some, None};
 ghost use Rattle.std.specs.FinMap as map;
 ghost use Rattle.flash_core.specs.declared.geometry.Geometry.{Geometry};
-ghost use Rattle.flash_core.specs.Images.{part, put, Torn};
+ghost use Rattle.flash_core.specs.Images.{IsErased, part, put, Torn};
 ghost use Rattle.kv_model.specs.FlaggedMap.{FlaggedMap};
 ghost use Rattle.kv_model.specs.Flags.{remove_flags};
 ghost use Rattle.kv_model.specs.History.{Write};
 ghost use Rattle.kv_model.specs.Keys.{is_key};
 ghost use Rattle.kv_model.specs.Sizes.{up, master_size};
 ghost use Rattle.record_core.specs.Header.{IsHeader};
-ghost use Rattle.record_core.specs.Log.{AreRecords, IsRecordAt, applied, extent, map_of, spelling_of};
-ghost use Rattle.record_core.specs.Mounts.{Contents, Holds, Mounts};
-ghost use Rattle.record_core.specs.Record.{IsMaster, IsRecord, master_bytes, record_bytes, record_crc};
+ghost use Rattle.record_core.specs.Log.{AreAllRecords, AreRecords, IsRecordAt, applied, extent, map_of, spelling_of};
+ghost use Rattle.record_core.specs.Mounts.{Contents, Holds, Mounts, Stand, reads_of};
+ghost use Rattle.record_core.specs.Record.{IsMaster, IsRecord, master_bytes, record_bytes};
 
 /// The bytes of a record, worked out by hand but for its CRC: program unit 8, key `a`, value `00ff`.
 pub fn record_example()
@@ -46,13 +46,15 @@ pub fn records_stand_where_programmed()
         → slice_index image area ≡ 255 → IsMaster prog version (part image area (master_size prog)) → ⊥ }
 {}
 
-/// Records one behind another go on by one more, and stay where a range before or behind them is written or torn. The
-/// key and the value of each are parts of the image.
+/// Records one behind another go on by more, stay where a range before or behind them is written or torn, and are all
+/// where the rest is erased. The key and the value of each are parts of the image.
 pub fn records_go_on()
     ensures append { (prog : ℕ) (image : List ℕ) (place mid end : ℕ) (rs ss : List Write)
         → AreRecords prog image place mid rs → AreRecords prog image mid end ss → AreRecords prog image place end (rs ++ ss) }
     ensures stay { (prog : ℕ) (range size : ℕ) (old new : List ℕ) (place end : ℕ) (rs : List Write) → 1 ≤ prog
         → Torn range size old new → (end ≤ range) ⊎ (range + size ≤ place) → AreRecords prog old place end rs → AreRecords prog new place end rs }
+    ensures all { (prog : ℕ) (image : List ℕ) (place limit end : ℕ) (rs : List Write) → 1 ≤ prog → AreRecords prog image place end rs
+        → end ≤ limit → IsErased image end (limit - end) → AreAllRecords prog image place limit end rs }
     ensures key { (prog : ℕ) (image : List ℕ) (place : ℕ) (r : Write) → 1 ≤ prog
         → IsRecordAt prog image place r → part image (place + up prog 24) (length r.key) ≡ r.key }
     ensures value { (prog : ℕ) (image : List ℕ) (place : ℕ) (r : Write) → 1 ≤ prog
@@ -69,8 +71,9 @@ pub fn last_record_decides()
     ensures others { (m : FlaggedMap) (r : Write) (key : List ℕ) → key ≢ r.key → map.get (applied r m) key ≡ map.get m key }
 {}
 
-/// An image holds one thing, and mounts to one map.
+/// An image holds one thing, and mounts to one map. Each master and record that mounting reads stands at its place.
 pub fn mounts_once()
     ensures contents { (g : Geometry) (image : List ℕ) (a b : Contents) → 1 ≤ g.prog → Holds g image a → Holds g image b → a ≡ b }
     ensures map { (g : Geometry) (image : List ℕ) (m n : FlaggedMap) → 1 ≤ g.prog → Mounts g image m → Mounts g image n → m ≡ n }
+    ensures reads { (g : Geometry) (image : List ℕ) (contents : Contents) → 1 ≤ g.prog → Holds g image contents → Stand image (reads_of g contents) }
 {}
