@@ -1,5 +1,5 @@
 -- A header and its fields in the bytes.
-use Rattle.std.proofs.Common.{◌≡◌, ℕ, ◌≤◌, ◌<◌, ◌^◌, List, [], ◌++◌, length, drop, slice_range, codes, refl, sym, ◌∙◌, ap, subst, arith, ⊎_elim}
+use Rattle.std.proofs.Common.{◌≡◌, ℕ, ◌≤◌, ◌<◌, ◌^◌, ◌/◌, ◌%◌, List, [], ◌∷◌, ◌++◌, length, drop, slice_range, codes, refl, sym, ◌∙◌, ap, subst, arith, ⊎_elim}
 use Rattle.std.specs.Int.{w16, w32, to_le_bytes, from_le_bytes}
 use Rattle.std.proofs.lemmas.List.{drop_all}
 use Rattle.std.proofs.lemmas.List.Folds.{drop_split}
@@ -52,6 +52,15 @@ same_u16 m n hm hn same = sym (from_le_bytes-to_le_bytes_2 m hm) ∙ ap (from_le
 
 same_u32 : (m n : ℕ) → m < 2 ^ 32 → n < 2 ^ 32 → to_le_bytes w32 m ≡ to_le_bytes w32 n → m ≡ n
 same_u32 m n hm hn same = sym (from_le_bytes-to_le_bytes_4 m hm) ∙ ap (from_le_bytes w32) same ∙ from_le_bytes-to_le_bytes_4 n hn
+
+-- four bytes hold a number's low 32 bits
+pub low_bytes : (n : ℕ) → to_le_bytes w32 (n % 2 ^ 32) ≡ to_le_bytes w32 n
+low_bytes n =
+    let a : n % 2 ^ 32 % 256 ≡ n % 256 = omega arith in
+    let b : n % 2 ^ 32 / 256 % 256 ≡ n / 256 % 256 = omega arith in
+    let c : n % 2 ^ 32 / 65536 % 256 ≡ n / 65536 % 256 = omega arith in
+    let d : n % 2 ^ 32 / 16777216 % 256 ≡ n / 16777216 % 256 = omega arith in
+    λ i. a i ∷ b i ∷ c i ∷ d i ∷ []
 
 -- two valid headers with one spelling have the same sizes and flags
 pub record SameSizes (a b : Header) : Type 0 where

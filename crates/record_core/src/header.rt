@@ -1,5 +1,5 @@
 //! The header of a record.
-ghost use Rattle.std.specs.Prelude.{◌≡◌, ◌↔◌, ℕ, ◌+◌, ◌<◌, ◌≤◌, ◌^◌, length, IsTrue, IfSome, Some, slice_range};
+ghost use Rattle.std.specs.Prelude.{◌≡◌, ◌↔◌, ℕ, ◌+◌, ◌%◌, ◌<◌, ◌≤◌, ◌^◌, length, IsTrue, IsSome, IfSome, Some, slice_range};
 ghost use Rattle.std.specs.Int.{w16, w32, to_le_bytes};
 ghost use Rattle.record_core.specs.Header.{header_bytes, HasFields, HasForm, IsHeader, IsValid};
 ghost use Rattle.record_core.specs.declared.header.Header.{Header};
@@ -111,7 +111,7 @@ fn has_form(bytes: &[u8; 24]) -> bool
 // The fields that headers don't share, whatever else the bytes are.
 fn fields_of(bytes: &[u8; 24]) -> Header
     ensures spelled { HasFields bytes.now result }
-    ensures only { (header : Header) → IsValid header → header.crc < 2 ^ 32 → HasFields bytes.now header → result ≡ header }
+    ensures only { (header : Header) → IsValid header → HasFields bytes.now header → result ≡ record header { crc = header.crc % 2 ^ 32 } }
 {
     Header {
         flags: u32_at(bytes, 8),
@@ -125,6 +125,7 @@ fn fields_of(bytes: &[u8; 24]) -> Header
 /// said of the CRC.
 pub fn read_header(bytes: &[u8; 24]) -> Option<Header>
     ensures found { IfSome result (λ header. IsValid header × (bytes.now ≡ header_bytes header)) }
+    ensures some { (header : Header) → IsValid header → bytes.now ≡ header_bytes header → IsSome result }
     ensures only { (header : Header) → IsValid header → header.crc < 2 ^ 32 → bytes.now ≡ header_bytes header → result ≡ Some header }
 {
     if !has_form(bytes) {

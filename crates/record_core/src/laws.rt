@@ -9,10 +9,11 @@ ghost use Rattle.kv_model.specs.Flags.{remove_flags};
 ghost use Rattle.kv_model.specs.History.{Write};
 ghost use Rattle.kv_model.specs.Keys.{is_key};
 ghost use Rattle.kv_model.specs.Sizes.{up, master_size};
-ghost use Rattle.record_core.specs.Header.{IsHeader};
+ghost use Rattle.record_core.specs.Header.{IsHeader, IsValid, header_bytes};
+ghost use Rattle.record_core.specs.declared.header.Header.{Header};
 ghost use Rattle.record_core.specs.Log.{AreAllRecords, AreRecords, IsRecordAt, applied, extent, map_of, spelling_of};
 ghost use Rattle.record_core.specs.Mounts.{Contents, Holds, Mounts, Stand, reads_of};
-ghost use Rattle.record_core.specs.Record.{IsMaster, IsRecord, master_bytes, record_bytes};
+ghost use Rattle.record_core.specs.Record.{IsMaster, IsRecord, header_of, master_bytes, record_bytes};
 
 /// The bytes of a record, worked out by hand but for its CRC: program unit 8, key `a`, value `00ff`.
 pub fn record_example()
@@ -23,13 +24,15 @@ pub fn record_example()
     ensures size { length (record_bytes 8 0 (97 ∷ []) (0 ∷ 255 ∷ [])) ≡ 32 }
 {}
 
-/// At a place stands at most one record, no record's spelling is a proper prefix of another's, and a master record has
-/// one version.
+/// At a place stands at most one record, no record's spelling is a proper prefix of another's, the spelling of a header
+/// has its sizes and flags, and a master record has one version.
 pub fn records_are_unambiguous()
     ensures one_record { (prog : ℕ) (image : List ℕ) (place : ℕ) (r s : Write) → 1 ≤ prog
         → IsRecordAt prog image place r → IsRecordAt prog image place s → r ≡ s }
     ensures no_prefix { (prog : ℕ) (r s : Write) (front rest : List ℕ) → 1 ≤ prog
         → IsRecord prog r.flags r.key r.value front → IsRecord prog s.flags s.key s.value (front ++ rest) → rest ≡ [] }
+    ensures one_header { (a b : Header) → IsValid a → IsValid b → header_bytes a ≡ header_bytes b
+        → (a.flags ≡ b.flags) × (a.key_size ≡ b.key_size) × (a.value_size ≡ b.value_size) }
     ensures one_master { (prog : ℕ) (bytes : List ℕ) (v w : ℕ) → 1 ≤ prog → IsMaster prog v bytes → IsMaster prog w bytes → v ≡ w }
 {}
 
@@ -47,7 +50,7 @@ pub fn records_stand_where_programmed()
 {}
 
 /// Records one behind another go on by more, stay where a range before or behind them is written or torn, and are all
-/// where the rest is erased. The key and the value of each are parts of the image.
+/// where the rest is erased. The header, the key and the value of each are parts of the image.
 pub fn records_go_on()
     ensures append { (prog : ℕ) (image : List ℕ) (place mid end : ℕ) (rs ss : List Write)
         → AreRecords prog image place mid rs → AreRecords prog image mid end ss → AreRecords prog image place end (rs ++ ss) }
@@ -55,6 +58,8 @@ pub fn records_go_on()
         → Torn range size old new → (end ≤ range) ⊎ (range + size ≤ place) → AreRecords prog old place end rs → AreRecords prog new place end rs }
     ensures all { (prog : ℕ) (image : List ℕ) (place limit end : ℕ) (rs : List Write) → 1 ≤ prog → AreRecords prog image place end rs
         → end ≤ limit → IsErased image end (limit - end) → AreAllRecords prog image place limit end rs }
+    ensures header { (prog : ℕ) (image : List ℕ) (place : ℕ) (r : Write) → 1 ≤ prog
+        → IsRecordAt prog image place r → part image place 24 ≡ header_bytes (header_of r.flags r.key r.value) }
     ensures key { (prog : ℕ) (image : List ℕ) (place : ℕ) (r : Write) → 1 ≤ prog
         → IsRecordAt prog image place r → part image (place + up prog 24) (length r.key) ≡ r.key }
     ensures value { (prog : ℕ) (image : List ℕ) (place : ℕ) (r : Write) → 1 ≤ prog
