@@ -1,5 +1,9 @@
 pub mod Images
 pub mod Inputs
+pub mod LogStore
 pub mod Outcomes
+pub mod Reading
 pub mod Replays
+pub mod Runs
 pub mod Words
+pub mod Writing

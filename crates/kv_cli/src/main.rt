@@ -3,8 +3,10 @@
 
 mod inputs;
 mod laws;
+mod read;
 mod run;
 mod stop;
+mod store;
 #[cfg(test)]
 mod tests;
 mod tool;

@@ -174,3 +174,87 @@ fn a_call_of_the_host_that_fails_ends_the_work(rt: HostRuntime) -> Result<(), Fa
     }
     Ok(())
 }
+
+// ---- replays over an erased image
+
+/// Tries a replay of a script over an erased image, in which the calls of these numbers fail.
+fn replays<'a, R: Abort>(
+    rt: &R,
+    alloc: Global,
+    script: &'a [u8],
+    failing: &'a [u32],
+    status: u8,
+    printed: &'a [u8],
+) -> Result<usize, Fail> {
+    let erased = vec![in alloc; 0xFFu8; 131_072]?;
+    let case = Case {
+        words: &REPLAY,
+        script: Some(script),
+        image: Some(&erased),
+        failing,
+        status,
+        printed,
+    };
+    let mut host = host_of(alloc, &case)?;
+    let report = report_of(alloc, &case, &mut host)?;
+    assert_eq!(rt; report.status, status);
+    assert_eq!(rt; host.printed(), printed);
+    assert!(rt; report.primary.as_slice().is_empty());
+    assert!(rt; host.file("p") == case.image, "the image stands");
+    Ok(report.journal.entries().len())
+}
+
+/// A line that sets a key of `length` letters.
+fn set_of_a_key(alloc: Global, length: usize) -> Result<Vec<u8>, Fail> {
+    let mut line = b"1 set ".to_vec(alloc)?;
+    for _ in 0..length {
+        line.push(b'x')?;
+    }
+    line.extend_from_slice(b" 00 -")?;
+    Ok(line)
+}
+
+/// A line that sets `k` to `length` bytes.
+fn set_of_a_size(alloc: Global, length: usize) -> Result<Vec<u8>, Fail> {
+    let mut line = b"1 set k ".to_vec(alloc)?;
+    for _ in 0..length {
+        line.extend_from_slice(b"5a")?;
+    }
+    line.extend_from_slice(b" -")?;
+    Ok(line)
+}
+
+#[test]
+fn replies_are_printed_a_line_each(rt: HostRuntime) -> Result<(), Fail> {
+    let alloc = rt.alloc();
+    let longest_key = set_of_a_key(alloc, 128)?;
+    let longer_key = set_of_a_key(alloc, 129)?;
+    let full = set_of_a_size(alloc, 65_471)?;
+    let too_full = set_of_a_size(alloc, 65_472)?;
+    let at_its_limit = vec![in alloc; b'#'; 2_097_152]?;
+    let cases: [(&[u8], &[u8]); 11] = [
+        (b"1 set a 00ff -\n1 get a", b"1 1 ok\n1 2 ok 00ff\n"),
+        (b"", b""),
+        (&at_its_limit, b""),
+        (b"1 get a\n", b"1 1 error 1 not-found\n"),
+        (b"1 set k - -\n1 get k", b"1 1 ok\n1 2 ok -\n"),
+        (&longest_key, b"1 1 ok\n"),
+        (&longer_key, b"1 1 error 2 invalid-key\n"),
+        (b"1 set TDBS 00 -", b"1 1 error 2 invalid-key\n"),
+        (b"1 set a/b 00 -", b"1 1 error 2 invalid-key\n"),
+        (&full, b"1 1 ok\n"),
+        (&too_full, b"1 1 error 6 media-full need 65504 room 65496\n"),
+    ];
+    for (script, printed) in cases {
+        replays(&rt, alloc, script, &[], 0, printed)?;
+    }
+    Ok(())
+}
+
+#[test]
+fn a_history_whose_printing_fails_stands_in_the_report(rt: HostRuntime) -> Result<(), Fail> {
+    let script = b"1 set a 00ff -\n1 get a";
+    let calls = replays(&rt, rt.alloc(), script, &[3], 4, b"")?;
+    assert_eq!(rt; calls, 2);
+    Ok(())
+}

@@ -1,0 +1,95 @@
+-- How a history goes on by one entry.
+use Rattle.std.proofs.Common.{◌≡◌, ℕ, List, [], ◌∷◌, ◌++◌, map, All, Option, Some, None, MatchOption, refl, sym, ◌∙◌, ap, subst, inl, append_assoc}
+use Rattle.std.specs.List.{flat_map}
+use Rattle.std.proofs.lemmas.List.{map-append, append-nil}
+use Rattle.std.proofs.lemmas.List.Concat.{flat_map-append}
+use Rattle.std.proofs.lemmas.List.Elements.{All-push, All-nil}
+use Rattle.flash_core.specs.State.{FlashState}
+use Rattle.kv_model.specs.declared.call.Call.{Call}
+use Rattle.kv_model.specs.declared.call.Entry.{Entry}
+use Rattle.kv_model.specs.declared.call.Reply.{Reply}
+use Rattle.kv_model.specs.declared.call.Reply.TheVariants.{Done}
+use Rattle.kv_model.specs.StoreState.{StoreState}
+use Rattle.kv_model.specs.Operations.{Operation, operation_of}
+use Rattle.kv_model.specs.PlainStep.{plain_step}
+use Rattle.kv_model.specs.History.{AreNumbered, Runs, Mounts, Steps, plain_rules}
+use Rattle.kv_model.proofs.HistoryLemmas.{runs_more}
+use Rattle.script_core.specs.declared.line.Line.{Line}
+use Rattle.script_core.specs.declared.line.Act.TheVariants.{Do}
+use Rattle.journal_core.specs.JournalState.{next_entry}
+use Rattle.kv_cli.specs.LogStore.{Places, StandsFor, HasStepped}
+use Rattle.kv_cli.specs.Replays.{run_constants, IsReplayOf, first_state, called, asked, asked_by, IsFaultless}
+use Rattle.kv_cli.specs.Runs.{HasRun, HasGoneOn}
+
+-- numbered entries, and one more behind them
+numbered_more : (earlier entries : List Entry) (entry : Entry) → AreNumbered earlier entries → AreNumbered (earlier ++ entries) (entry ∷ []) → AreNumbered earlier (entries ++ entry ∷ [])
+numbered_more earlier [] entry numbered next = subst (λ (l : List Entry). AreNumbered l (entry ∷ [])) (append-nil earlier) next
+numbered_more earlier (e ∷ entries) entry numbered next =
+    (numbered.0, numbered.1, numbered_more (earlier ++ e ∷ []) entries entry numbered.2 (subst (λ (l : List Entry). AreNumbered l (entry ∷ [])) (sym (append_assoc earlier (e ∷ []) entries)) next))
+
+-- one line more was run
+pub run_more : (lines : List Line) (line : Line) (old new : List Entry) (s t : FlashState) (end later : ℕ) (places others : Places)
+    → (run : HasRun lines old s end places) → HasGoneOn run.last line old new t later others → HasRun (lines ++ line ∷ []) new t later others
+run_more lines line old new s t end later places others run gone = record {
+  last = gone.after;
+  numbered = subst (AreNumbered []) (sym gone.appended) (numbered_more [] old gone.entry run.numbered gone.numbered);
+  runs = subst (λ (entries : List Entry). Runs (plain_rules run_constants) first_state entries gone.after) (sym gone.appended)
+      (runs_more (plain_rules run_constants) first_state run.last gone.after old gone.entry run.runs gone.follows);
+  in_order = ap (map called) gone.appended ∙ map-append called old (gone.entry ∷ []) ∙ ap (λ (l : List (ℕ × Call)). l ++ called gone.entry ∷ []) run.in_order
+      ∙ ap (λ (l : List (ℕ × Call)). flat_map asked lines ++ l) (gone.asked_for ∙ sym (append-nil (asked line))) ∙ sym (flat_map-append asked lines (line ∷ []));
+  faultless = subst (All (λ (entry : Entry). IsFaultless entry.reply)) (sym gone.appended) (All-push (λ (entry : Entry). IsFaultless entry.reply) old gone.entry run.faultless gone.faultless);
+  stands = gone.stands;
+}
+
+-- what the store's step gives a history
+pub record Next (state : StoreState) (who : ℕ) (asks : Option Operation) (reply : Reply) (s : FlashState) (end : ℕ) (places : Places) : Type 0 where
+  pub after : StoreState
+  pub follows : MatchOption asks ((reply ≡ Done) × Mounts (plain_rules run_constants) state after) (λ operation. Steps (plain_rules run_constants) state who operation (record { state = after; reply = reply }))
+  pub faultless : IsFaultless reply
+  pub stands : StandsFor s end places after
+
+pub stepped_next : (state : StoreState) (who : ℕ) (asks : Option Operation) (reply : Reply) (s : FlashState) (end : ℕ) (places : Places)
+    → MatchOption asks ⊥ (λ operation. IsFaultless (plain_step run_constants state who operation).reply)
+    → MatchOption asks ⊥ (λ operation. HasStepped run_constants state who operation reply s end places) → Next state who asks reply s end places
+stepped_next state who None reply s end places faultless stepped = absurd stepped
+stepped_next state who (Some operation) reply s end places faultless stepped = record {
+  after = (plain_step run_constants state who operation).state;
+  follows = inl (λ i. record { state = (plain_step run_constants state who operation).state; reply = stepped.reply_is i });
+  faultless = subst IsFaultless (sym stepped.reply_is) faultless;
+  stands = stepped.stands;
+}
+
+-- one call more, noted behind the entries
+pub one_noted : (state : StoreState) (line : Line) (call noted : Call) (reply : Reply) (old new : List Entry) (s : FlashState) (end : ℕ) (places : Places)
+    → line.act ≡ Do call → noted ≡ call → new ≡ old ++ next_entry old line.who noted reply ∷ []
+    → Next state line.who (operation_of call) reply s end places → HasGoneOn state line old new s end places
+one_noted state line call noted reply old new s end places acts same appended next = record {
+  entry = next_entry old line.who call reply;
+  after = next.after;
+  appended = appended ∙ ap (λ (c : Call). old ++ next_entry old line.who c reply ∷ []) same;
+  numbered = (refl, refl, tt);
+  asked_for = ap (asked_by line.who) (sym acts);
+  follows = next.follows;
+  faultless = next.faultless;
+  stands = next.stands;
+}
+
+-- no line was run
+pub run_none : (entries : List Entry) (s : FlashState) (end : ℕ) (places : Places) → entries ≡ [] → StandsFor s end places first_state → HasRun [] entries s end places
+run_none entries s end places none stands = subst (λ (l : List Entry). HasRun [] l s end places) (sym none) (record {
+  last = first_state;
+  numbered = tt;
+  runs = refl;
+  in_order = refl;
+  faultless = All-nil (λ (entry : Entry). IsFaultless entry.reply);
+  stands = stands;
+})
+
+-- all lines were run
+pub run_all : (lines : List Line) (entries : List Entry) (s : FlashState) (end : ℕ) (places : Places) → HasRun lines entries s end places → IsReplayOf lines entries
+run_all lines entries s end places run = record {
+  last = run.last;
+  legal = record { numbered = run.numbered; runs = run.runs };
+  in_order = run.in_order;
+  faultless = run.faultless;
+}

@@ -1,0 +1,97 @@
+-- Steps of a plain store that runs and has no set.
+use Rattle.std.proofs.Common.{◌≡◌, ℕ, Bool, true, false, List, Option, Some, None, MatchOption, nat_lt, length, ◌+◌, refl, sym, subst}
+use Rattle.std.specs.FinMap as map
+use Rattle.kv_model.specs.declared.error.KvError.{KvError}
+use Rattle.kv_model.specs.declared.error.KvError.TheVariants as error
+use Rattle.kv_model.specs.declared.call.Reply.TheVariants as reply
+use Rattle.kv_model.specs.Keys.{is_key}
+use Rattle.kv_model.specs.Flags.{is_write_once}
+use Rattle.kv_model.specs.Sizes.{record_size}
+use Rattle.kv_cli.specs.LogStore.{flags_in, with_record}
+use Rattle.kv_model.specs.FlaggedMap.{Stored}
+use Rattle.kv_model.specs.StoreState.{StoreState}
+use Rattle.kv_model.specs.Operations.{Get, Set, operation_of}
+use Rattle.kv_model.specs.declared.call.Call.{Call}
+use Rattle.kv_model.specs.declared.call.Call.TheVariants as call
+use Rattle.script_core.specs.declared.line.Act.TheVariants.{Do}
+use Rattle.kv_cli.specs.Inputs.{IsEarlyAct}
+use Rattle.kv_cli.specs.Replays.{IsFaultless}
+use Rattle.kv_model.specs.PlainStep.{Constants, Outcome, plain_step}
+
+module _ (constants : Constants) (state : StoreState) (who : ℕ) (running : state.doubt ≡ None) (key : List ℕ) where
+  pub get_bad_key : is_key key ≡ false → plain_step constants state who (Get key) ≡ record { state = state; reply = reply.Refused error.InvalidKey }
+  get_bad_key bad = simp (running, bad)
+
+  pub get_absent : is_key key ≡ true → map.get state.primary key ≡ None → plain_step constants state who (Get key) ≡ record { state = state; reply = reply.Refused error.NotFound }
+  get_absent valid absent = simp (running, valid, absent)
+
+  pub get_present : (stored : Stored) → is_key key ≡ true → map.get state.primary key ≡ Some stored → plain_step constants state who (Get key) ≡ record { state = state; reply = reply.Value stored.bytes }
+  get_present stored valid present = simp (running, valid, present)
+
+module _ (constants : Constants) (state : StoreState) (who : ℕ) (running : state.doubt ≡ None) (no_set : state.open_set ≡ None) (key value : List ℕ) (flags : ℕ) where
+  abbrev refused : KvError → Outcome
+  refused error = record { state = state; reply = reply.Refused error }
+
+  pub set_bad_key : is_key key ≡ false → plain_step constants state who (Set key value flags) ≡ refused error.InvalidKey
+  set_bad_key bad = simp (running, bad)
+
+  module _ (valid : is_key key ≡ true) where
+    pub set_bad_flags : nat_lt flags 2 ≡ false → plain_step constants state who (Set key value flags) ≡ refused error.InvalidFlags
+    set_bad_flags bad = simp (running, valid, bad)
+
+    module _ (plain : nat_lt flags 2 ≡ true) where
+      pub set_too_large : nat_lt 65572 (length value) ≡ true → plain_step constants state who (Set key value flags) ≡ refused error.InvalidSize
+      set_too_large large = simp (running, valid, plain, large)
+
+      module _ (fits : nat_lt 65572 (length value) ≡ false) where
+        pub set_protected : is_write_once (flags_in state key) ≡ true → plain_step constants state who (Set key value flags) ≡ refused error.WriteProtected
+        set_protected protected = simp (running, no_set, valid, plain, fits, protected)
+
+        module _ (free : is_write_once (flags_in state key) ≡ false) where
+          pub set_full : nat_lt constants.room (state.spent + record_size constants.prog (length key) (length value)) ≡ true
+              → plain_step constants state who (Set key value flags) ≡ refused (error.MediaFull (state.spent + record_size constants.prog (length key) (length value)) constants.room)
+          set_full full = simp (running, no_set, valid, plain, fits, free, full)
+
+          pub set_done : nat_lt constants.room (state.spent + record_size constants.prog (length key) (length value)) ≡ false
+              → plain_step constants state who (Set key value flags) ≡ record { state = with_record constants.prog state key (record { flags = flags; bytes = value }); reply = reply.Done }
+          set_done room = simp (running, no_set, valid, plain, fits, free, room)
+
+told : {x : Outcome} (o : Outcome) → x ≡ o → IsFaultless o.reply → IsFaultless x.reply
+told o same faultless = subst (λ (y : Outcome). IsFaultless y.reply) (sym same) faultless
+
+-- the replies of gets and sets tell of no fault
+module _ (constants : Constants) (state : StoreState) (who : ℕ) (running : state.doubt ≡ None) where
+  get_replies : (key : List ℕ) (valid : Bool) (found : Option Stored) → is_key key ≡ valid → map.get state.primary key ≡ found
+      → IsFaultless (plain_step constants state who (Get key)).reply
+  get_replies key false found bad is = told _ (get_bad_key constants state who running key bad) tt
+  get_replies key true None valid absent = told _ (get_absent constants state who running key valid absent) tt
+  get_replies key true (Some stored) valid present = told _ (get_present constants state who running key stored valid present) tt
+
+  set_replies : state.open_set ≡ None → (key value : List ℕ) (flags : ℕ) (valid plain large protected full : Bool)
+      → is_key key ≡ valid → nat_lt flags 2 ≡ plain → nat_lt 65572 (length value) ≡ large → is_write_once (flags_in state key) ≡ protected
+      → nat_lt constants.room (state.spent + record_size constants.prog (length key) (length value)) ≡ full
+      → IsFaultless (plain_step constants state who (Set key value flags)).reply
+  set_replies no_set key value flags false plain large protected full is_valid is_plain is_large is_protected is_full = told _ (set_bad_key constants state who running no_set key value flags is_valid) tt
+  set_replies no_set key value flags true false large protected full is_valid is_plain is_large is_protected is_full = told _ (set_bad_flags constants state who running no_set key value flags is_valid is_plain) tt
+  set_replies no_set key value flags true true true protected full is_valid is_plain is_large is_protected is_full = told _ (set_too_large constants state who running no_set key value flags is_valid is_plain is_large) tt
+  set_replies no_set key value flags true true false true full is_valid is_plain is_large is_protected is_full = told _ (set_protected constants state who running no_set key value flags is_valid is_plain is_large is_protected) tt
+  set_replies no_set key value flags true true false false true is_valid is_plain is_large is_protected is_full = told _ (set_full constants state who running no_set key value flags is_valid is_plain is_large is_protected is_full) tt
+  set_replies no_set key value flags true true false false false is_valid is_plain is_large is_protected is_full = told _ (set_done constants state who running no_set key value flags is_valid is_plain is_large is_protected is_full) tt
+
+  pub early_replies : state.open_set ≡ None → (call : Call) → IsEarlyAct (Do call)
+      → MatchOption (operation_of call) ⊥ (λ operation. IsFaultless (plain_step constants state who operation).reply)
+  early_replies no_set (call.Get key) early = get_replies key (is_key key) (map.get state.primary key) refl refl
+  early_replies no_set (call.Set key value flags) early = set_replies no_set key value flags.bits (is_key key) (nat_lt flags.bits 2) (nat_lt 65572 (length value))
+      (is_write_once (flags_in state key)) (nat_lt constants.room (state.spent + record_size constants.prog (length key) (length value))) refl refl refl refl refl
+  early_replies no_set (call.Part key offset count) early = absurd early
+  early_replies no_set (call.Info key) early = absurd early
+  early_replies no_set (call.Remove key) early = absurd early
+  early_replies no_set (call.Start key size flags) early = absurd early
+  early_replies no_set (call.Add value) early = absurd early
+  early_replies no_set call.Finish early = absurd early
+  early_replies no_set call.Abort early = absurd early
+  early_replies no_set (call.IterOpen n prefix) early = absurd early
+  early_replies no_set (call.Next n) early = absurd early
+  early_replies no_set (call.IterClose n) early = absurd early
+  early_replies no_set call.Reset early = absurd early
+  early_replies no_set call.Mount early = absurd early

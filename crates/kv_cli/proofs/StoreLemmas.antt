@@ -1,0 +1,122 @@
+-- What a read leaves of a store, and what a place says of the map.
+use Rattle.std.proofs.Common.{◌≡◌, ℕ, ◌+◌, ◌-◌, ◌<◌, ◌≤◌, List, [], length, Option, Some, None, IfSome, Result, Ok, Err, IfOk, OnOk, IsErr, Bool, true, false, rules, MatchResult, Vec, Global, unwrap_or, refl, sym, ◌∙◌, ap, subst, inl, inr, arith}
+use mathlib.Core.Bool.{false≢true}
+use Rattle.std.specs.FinMap as map
+use Rattle.kv_model.specs.declared.bytes.NoMemory.{NoMemory}
+use Rattle.kv_model.specs.declared.call.Reply.{Reply}
+use Rattle.kv_model.specs.declared.call.Reply.TheVariants.{Value, Done}
+use Rattle.kv_model.specs.declared.error.KvError.{KvError}
+use Rattle.kv_model.specs.declared.error.KvError.TheVariants.{Memory}
+use Rattle.flash_core.specs.declared.geometry.Geometry.{Geometry}
+use Rattle.flash_core.specs.Calls.{OnlyReads}
+use Rattle.flash_core.specs.Images.{IsErased}
+use Rattle.flash_core.specs.Sizes.{IsValid, area_size, size_of}
+use Rattle.flash_core.specs.State.{FlashState}
+use Rattle.flash_core.specs.Up.{IsMultipleOf}
+use Rattle.kv_model.specs.FlaggedMap.{Stored}
+use Rattle.kv_model.specs.StoreState.{StoreState}
+use Rattle.std.specs.Prelude.{IsTrue, nat_lt, if◌then◌else◌}
+use Rattle.std.proofs.lemmas.Bool.{cases_eq}
+use Rattle.std.proofs.lemmas.Bool.Decides.{nat_tests}
+use Rattle.kv_model.specs.Keys.{is_key, is_prefix}
+use Rattle.record_core.specs.Header.{IsHeader}
+use Rattle.kv_model.specs.Sizes.{master_size}
+use Rattle.kv_cli.specs.Writing.{image_of, IsTold}
+use Rattle.kv_cli.specs.LogStore.{Places, place_of, IsReady, IsKept, IsLinked, StandsFor}
+
+module _ {old new : FlashState} (reads : OnlyReads old new) where
+  pub same_image : image_of new ≡ image_of old
+  same_image = ap (λ (o : Option (List ℕ)). unwrap_or o []) reads.image
+
+  pub IsTold-read : IsTold old → IsTold new
+  IsTold-read device = record {
+    valid = subst IsValid (sym reads.geometry) device.valid;
+    sound = reads.sound device.sound;
+    told = reads.image ∙ device.told ∙ ap Some (sym same_image);
+    sized = ap length same_image ∙ device.sized ∙ ap size_of (sym reads.geometry);
+  }
+
+  pub IsReady-read : {end : ℕ} {places : Places} {work : List ℕ} → IsReady old end places work → IsReady new end places work
+  IsReady-read {end} {places} {work} ready = record {
+    device = IsTold-read ready.device;
+    begin = subst (λ (g : Geometry). master_size g.prog ≤ end) (sym reads.geometry) ready.begin;
+    end_aligned = subst (λ (g : Geometry). IsMultipleOf g.prog end) (sym reads.geometry) ready.end_aligned;
+    end_inside = subst (λ (g : Geometry). end ≤ area_size g) (sym reads.geometry) ready.end_inside;
+    erased = subst (λ (g : Geometry). IsErased (image_of new) end (area_size g - end)) (sym reads.geometry)
+        (subst (λ (image : List ℕ). IsErased image end (area_size old.geometry - end)) (sym same_image) ready.erased);
+    places_inside = subst (λ (g : Geometry). (key : List ℕ) → IfSome (place_of places key) (λ place. place + 24 ≤ area_size g)) (sym reads.geometry) ready.places_inside;
+    work_size = ready.work_size;
+  }
+
+  pub StandsFor-read : {end : ℕ} {places : Places} {state : StoreState} → StandsFor old end places state → StandsFor new end places state
+  StandsFor-read {end} {places} {state} stands = record {
+    linked = λ key. subst (λ (g : Geometry). IsLinked g.prog (image_of new) end key (place_of places key) (map.get state.primary key)) (sym reads.geometry)
+        (subst (λ (image : List ℕ). IsLinked old.geometry.prog image end key (place_of places key) (map.get state.primary key)) (sym same_image) (stands.linked key));
+    spent = stands.spent ∙ ap (λ (g : Geometry). master_size g.prog + state.spent) (sym reads.geometry);
+    running = stands.running;
+    no_set = stands.no_set;
+  }
+
+-- a key without a place is not in the map
+pub unlinked : (prog : ℕ) (image : List ℕ) (end : ℕ) (key : List ℕ) (there : Option Stored) → IsLinked prog image end key None there → there ≡ None
+unlinked prog image end key None is = refl
+unlinked prog image end key (Some stored) is = absurd is
+
+-- what a place says of the map: the key is in it, and its record stands there
+pub record Found (prog : ℕ) (image : List ℕ) (end place : ℕ) (key : List ℕ) (there : Option Stored) : Type 0 where
+  pub stored : Stored
+  pub present : there ≡ Some stored
+  pub kept : IsKept prog image end place key stored
+
+pub linked_at : (prog : ℕ) (image : List ℕ) (end place : ℕ) (key : List ℕ) (there : Option Stored) → IsLinked prog image end key (Some place) there → Found prog image end place key there
+linked_at prog image end place key None is = absurd is
+linked_at prog image end place key (Some stored) is = record { stored = stored; present = refl; kept = is }
+
+pub linked_by : (prog : ℕ) (image : List ℕ) (end : ℕ) (key : List ℕ) (place other : Option ℕ) (there : Option Stored) → place ≡ other → IsLinked prog image end key place there → IsLinked prog image end key other there
+linked_by prog image end key place other there same is = subst (λ (p : Option ℕ). IsLinked prog image end key p there) same is
+
+-- what a get answers that read the value, or found no memory
+pub get_answer : (read : Result (Vec ℕ Global) KvError) (result : Result Reply NoMemory) (P : Reply → Type 0) (bytes : List ℕ)
+    → MatchResult read (λ value. value.items ≡ bytes) (λ error. error ≡ Memory) → IfOk read (λ value. result ≡ Ok (Value value.items)) → (read ≡ Err Memory → IsErr result)
+    → P (Value bytes) → IfOk result P
+get_answer (Ok value) result P bytes is ok memory holds = subst (λ (r : Result Reply NoMemory). IfOk r P) (sym (ok ∙ ap (λ (l : List ℕ). Ok (Value l)) is)) holds
+get_answer (Err error) result P bytes is ok memory holds = when_err result (memory (ap Err is))
+  where
+    when_err : (r : Result Reply NoMemory) → IsErr r → IfOk r P
+    when_err (Ok x) failed = absurd (false≢true failed)
+    when_err (Err e) failed = tt
+
+-- the sizes of a key
+pub key_sizes : (bytes : List ℕ) → IsTrue (is_key bytes) → (1 ≤ length bytes) × (length bytes ≤ 128)
+unfolding is_key is_prefix
+key_sizes bytes valid = search rules
+
+-- a header of a value that a plain store takes
+pub plain_header : (flags key_size value_size : ℕ) → flags < 2 → 1 ≤ key_size → key_size ≤ 128 → value_size ≤ 65572 → IsHeader flags key_size value_size
+plain_header flags key_size value_size plain least most value_most = record {
+  kind = elim (cases_eq flags 0) [ inl is ↦ inl is | inr other ↦ inr (inl (omega arith)) ];
+  key_least = least;
+  key_most = most;
+  value_most = value_most;
+  remove_is_empty = λ removed. absurd (omega arith);
+}
+
+abbrev pub passed : Result Unit KvError
+passed = Ok tt
+
+-- a check that passed found nothing
+pub found_nothing : (protected full : Bool) (first second : KvError) → passed ≡ (if protected then Err first else if full then Err second else Ok tt) → (protected ≡ false) × (full ≡ false)
+found_nothing true full first second same = absurd (cc)
+found_nothing false true first second same = absurd (cc)
+found_nothing false false first second same = (refl, refl)
+
+-- what a call did that answers done or finds no memory
+pub done_or_none : (result : Result Reply NoMemory) (Q : Type 0) (P : Reply → Type 0) → IfOk result (λ reply. reply ≡ Done) → OnOk result Q → (Q → P Done) → IfOk result P
+done_or_none (Ok reply) Q P is holds goes = subst P (sym is) (goes holds)
+done_or_none (Err error) Q P is holds goes = tt
+
+pub below_two : (n : ℕ) → n < 2 → nat_lt n 2 ≡ true
+below_two n less = grind (arith, nat_tests)
+
+pub not_above : (most n : ℕ) → n ≤ most → nat_lt most n ≡ false
+not_above most n no_more = grind (arith, nat_tests)

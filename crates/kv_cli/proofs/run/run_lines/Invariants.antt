@@ -1,0 +1,16 @@
+use Rattle.std.proofs.Common.{◌≡◌, take, length}
+use Rattle.kv_cli.specs.LogStore.{IsReady, IsOver}
+use Rattle.kv_cli.specs.Replays.{run_constants}
+use Rattle.kv_cli.specs.Runs.{HasRun}
+use Rattle.kv_cli.proofs.run.run_lines.Given as goal
+
+-- the lines so far were run
+abbrev pub invariant-loop-line : goal.invariant-loop-line
+invariant-loop-line g l =
+    let s = g.F.Flash.state l.store.flash in
+    record {
+      ready : IsReady s l.store.end l.store.places.entries l.store.work.items;
+      over : IsOver s.geometry run_constants;
+      run : HasRun (take l.line-index l.lines) l.journal.entries s l.store.end l.store.places.entries;
+      count : length l.journal.entries ≡ l.line-index;
+    }

@@ -1,0 +1,30 @@
+-- How a history goes on, line by line.
+use Rattle.std.specs.Prelude.{◌≡◌, ℕ, List, [], ◌∷◌, ◌++◌, map, All}
+use Rattle.std.specs.List.{flat_map}
+use Rattle.flash_core.specs.State.{FlashState}
+use Rattle.kv_model.specs.declared.call.Entry.{Entry}
+use Rattle.kv_model.specs.StoreState.{StoreState}
+use Rattle.kv_model.specs.History.{AreNumbered, Runs, Follows, plain_rules}
+use Rattle.script_core.specs.declared.line.Line.{Line}
+use Rattle.kv_cli.specs.LogStore.{Places, StandsFor}
+use Rattle.kv_cli.specs.Replays.{run_constants, first_state, called, asked, IsFaultless}
+
+-- The entry of a line was appended: it follows from the state before it, and the image stands for the state after it.
+pub record HasGoneOn (state : StoreState) (line : Line) (old new : List Entry) (s : FlashState) (end : ℕ) (places : Places) : Type 0 where
+  pub entry : Entry
+  pub after : StoreState
+  pub appended : new ≡ old ++ entry ∷ []
+  pub numbered : AreNumbered old (entry ∷ [])
+  pub asked_for : called entry ∷ [] ≡ asked line
+  pub follows : Follows (plain_rules run_constants) state entry after
+  pub faultless : IsFaultless entry.reply
+  pub stands : StandsFor s end places after
+
+-- These lines were run: their entries are a history, and the image stands for its last state.
+pub record HasRun (lines : List Line) (entries : List Entry) (s : FlashState) (end : ℕ) (places : Places) : Type 0 where
+  pub last : StoreState
+  pub numbered : AreNumbered [] entries
+  pub runs : Runs (plain_rules run_constants) first_state entries last
+  pub in_order : map called entries ≡ flat_map asked lines
+  pub faultless : All (λ (entry : Entry). IsFaultless entry.reply) entries
+  pub stands : StandsFor s end places last

@@ -1,0 +1,241 @@
+// The store behind a replay: a log of records in the first area, and the place of the last record of each key.
+ghost use Rattle.std.specs.Prelude.{◌≡◌, ◌+◌, ◌-◌, ◌<◌, ◌≤◌, ℕ, length, Ok, Err, IfOk, IsErr, OnOk, Option, None, IsTrue};
+ghost use Rattle.std.specs.Option.{option_map_or};
+ghost use Rattle.std.specs.FinMap.{empty, get};
+ghost use Rattle.flash_core.specs.Calls.{OnlyReads};
+ghost use Rattle.flash_core.specs.Images.{IsErased};
+ghost use Rattle.flash_core.specs.Sizes.{area_size};
+ghost use Rattle.kv_model.specs.FlaggedMap.{Stored};
+ghost use Rattle.kv_model.specs.Keys.{is_key};
+ghost use Rattle.kv_model.specs.Sizes.{master_size, record_size};
+ghost use Rattle.kv_model.specs.StoreState.{StoreState, fresh_state};
+ghost use Rattle.kv_model.specs.PlainStep.{Constants};
+ghost use Rattle.kv_model.specs.Operations.{Operation, Get, Set};
+ghost use Rattle.record_core.specs.Header.{IsHeader};
+ghost use Rattle.script_core.specs.declared.line.Act.{Act};
+ghost use Rattle.kv_cli.specs.Inputs.{IsEarlyAct};
+ghost use Rattle.kv_cli.specs.Writing.{image_of, IsTold};
+ghost use Rattle.kv_cli.specs.LogStore.{place_of, flags_in, with_record, IsReady, StandsFor, IsOver, HasStepped, CallHasStepped, RoomCheck};
+
+use crate::read::{read_flags, read_value, zeros};
+use flash_core::Flash;
+use kv_model::{Bytes, Call, Flags, Key, KvError, NoMemory, Reply};
+use record_core::{padded_size, size_of_record, write_record};
+use std::alloc::Global;
+use std::collections::BTreeMap;
+
+const MAX_VALUE: usize = 65_572;
+
+// At least the largest program unit.
+const WORK_SIZE: u32 = 4_096;
+
+/// A log of records in area 0, behind the room of a master record.
+#[derive(Drop)]
+pub struct LogStore<F: Flash> {
+    flash: F,
+    end: u32,
+    places: BTreeMap<Key, u32>,
+    work: Vec<u8>,
+}
+
+fn refused(error: KvError) -> Reply
+    ensures { result ≡ Reply.Refused error }
+{
+    Reply::Refused { error }
+}
+
+fn copy_of(key: &Key) -> Result<Key, NoMemory>
+    ensures { IfOk result (λ copy. copy ≡ key.now) }
+{
+    Ok(key.clone()?)
+}
+
+fn master_size(prog: u32) -> u32
+    requires positive { 0 < prog }
+    requires small { prog ≤ 4096 }
+    ensures { result ≡ master_size prog }
+{
+    padded_size(prog, 24) + padded_size(prog, 12)
+}
+
+impl<F: Flash> LogStore<F> {
+    /// An empty store over an erased device.
+    pub fn new(alloc: Global, flash: F) -> Result<LogStore<F>, NoMemory>
+    where
+        F: Drop,
+        requires told { IsTold (F.state flash) }
+        requires erased { IsErased (image_of (F.state flash)) 0 (area_size (F.state flash).geometry) }
+        ensures device { IfOk result (λ store. store.flash ≡ flash) }
+        ensures ready { IfOk result (λ store. IsReady (F.state flash) store.end store.places.entries store.work.items) }
+        ensures stands { IfOk result (λ store. (vector : ℕ) → StandsFor (F.state flash) store.end store.places.entries (fresh_state empty empty vector 0)) }
+    {
+        let geometry = flash.geometry();
+        let work = match zeros(alloc, WORK_SIZE) {
+            Ok(work) => work,
+            Err(_) => return Err(NoMemory),
+        };
+        Ok(LogStore {
+            flash,
+            end: master_size(geometry.prog),
+            places: BTreeMap::new(alloc),
+            work,
+        })
+    }
+
+    /// One call of those that lines may ask for so far.
+    pub fn call(&mut self, alloc: Global, call: &Call) -> Result<Reply, NoMemory>
+        requires ready { IsReady (F.state self.old.flash) self.old.end self.old.places.entries self.old.work.items }
+        requires early { IsEarlyAct (Act.Do call.now) }
+        ensures ready { IsReady (F.state self.new.flash) self.new.end self.new.places.entries self.new.work.items }
+        ensures geometry { (F.state self.new.flash).geometry ≡ (F.state self.old.flash).geometry }
+        ensures step { (constants : Constants) (state : StoreState) (who : ℕ) → IsOver (F.state self.old.flash).geometry constants
+            → StandsFor (F.state self.old.flash) self.old.end self.old.places.entries state
+            → IfOk result (λ reply. CallHasStepped constants state who call.now reply (F.state self.new.flash) self.new.end self.new.places.entries) }
+    {
+        match call {
+            Call::Get { key } => Ok(self.get(alloc, key.as_slice())?),
+            Call::Set { key, value, flags } => {
+                Ok(self.set(key.as_slice(), value.as_slice(), *flags)?)
+            }
+            _ => unreachable!(),
+        }
+    }
+
+    /// The whole value of a key.
+    pub fn get(&mut self, alloc: Global, bytes: &[u8]) -> Result<Reply, NoMemory>
+        requires { IsReady (F.state self.old.flash) self.old.end self.old.places.entries self.old.work.items }
+        ensures ready { IsReady (F.state self.new.flash) self.new.end self.new.places.entries self.new.work.items }
+        ensures geometry { (F.state self.new.flash).geometry ≡ (F.state self.old.flash).geometry }
+        ensures step { (constants : Constants) (state : StoreState) (who : ℕ) → IsOver (F.state self.old.flash).geometry constants
+            → StandsFor (F.state self.old.flash) self.old.end self.old.places.entries state
+            → IfOk result (λ reply. HasStepped constants state who (Get bytes.now) reply (F.state self.new.flash) self.new.end self.new.places.entries) }
+    {
+        let Ok(key) = Key::new(bytes) else {
+            return Ok(refused(KvError::InvalidKey));
+        };
+        match self.place_of(&key) {
+            None => Ok(refused(KvError::NotFound)),
+            Some(place) => answer(read_value(alloc, &mut self.flash, place, &key)),
+        }
+    }
+
+    /// Sets a value.
+    pub fn set(&mut self, bytes: &[u8], value: &[u8], flags: Flags) -> Result<Reply, NoMemory>
+        requires { IsReady (F.state self.old.flash) self.old.end self.old.places.entries self.old.work.items }
+        ensures ready { IsReady (F.state self.new.flash) self.new.end self.new.places.entries self.new.work.items }
+        ensures geometry { (F.state self.new.flash).geometry ≡ (F.state self.old.flash).geometry }
+        ensures step { (constants : Constants) (state : StoreState) (who : ℕ) → IsOver (F.state self.old.flash).geometry constants
+            → StandsFor (F.state self.old.flash) self.old.end self.old.places.entries state
+            → IfOk result (λ reply. HasStepped constants state who (Set bytes.now value.now flags.bits) reply (F.state self.new.flash) self.new.end self.new.places.entries) }
+    {
+        let Ok(key) = Key::new(bytes) else {
+            return Ok(refused(KvError::InvalidKey));
+        };
+        if flags.bits >= 2 {
+            return Ok(refused(KvError::InvalidFlags));
+        }
+        if value.len() > MAX_VALUE {
+            return Ok(refused(KvError::InvalidSize));
+        }
+        match self.check_room(&key, value.len() as u32) {
+            Ok(()) => self.append(key, value, flags.bits),
+            Err(error) => Ok(refused(error)),
+        }
+    }
+
+    // Whether a value of this size may be set under the key.
+    fn check_room(&mut self, key: &Key, size: u32) -> Result<(), KvError>
+        requires ready { IsReady (F.state self.old.flash) self.old.end self.old.places.entries self.old.work.items }
+        requires small { size ≤ 65572 }
+        ensures ready { IsReady (F.state self.new.flash) self.new.end self.new.places.entries self.new.work.items }
+        ensures reads { OnlyReads (F.state self.old.flash) (F.state self.new.flash) }
+        ensures end { self.new.end ≡ self.old.end }
+        ensures places { self.new.places.entries ≡ self.old.places.entries }
+        ensures fits { OnOk result (self.old.end + record_size (F.state self.old.flash).geometry.prog (length key.now) size ≤ area_size (F.state self.old.flash).geometry) }
+        ensures cause { (constants : Constants) (state : StoreState) → IsOver (F.state self.old.flash).geometry constants
+            → StandsFor (F.state self.old.flash) self.old.end self.old.places.entries state → RoomCheck constants state key.now size result }
+    {
+        if self.flags_under(key)? % 2 == 1 {
+            return Err(KvError::WriteProtected);
+        }
+        let geometry = self.flash.geometry();
+        let taken = master_size(geometry.prog);
+        let room = geometry.units_per_area * geometry.erase - taken;
+        let need = self.end - taken
+            + size_of_record(geometry.prog, key.as_slice().len() as u32, size);
+        if need > room {
+            return Err(KvError::MediaFull { need, room });
+        }
+        Ok(())
+    }
+
+    // Writes the record of a key that may be set.
+    fn append(&mut self, key: Key, value: &[u8], flags: u32) -> Result<Reply, NoMemory>
+        requires ready { IsReady (F.state self.old.flash) self.old.end self.old.places.entries self.old.work.items }
+        requires header { IsHeader flags (length key) (length value.now) }
+        requires fits { self.old.end + record_size (F.state self.old.flash).geometry.prog (length key) (length value.now) ≤ area_size (F.state self.old.flash).geometry }
+        requires valid { IsTrue (is_key key) }
+        ensures ready { IsReady (F.state self.new.flash) self.new.end self.new.places.entries self.new.work.items }
+        ensures geometry { (F.state self.new.flash).geometry ≡ (F.state self.old.flash).geometry }
+        ensures done { IfOk result (λ reply. reply ≡ Reply.Done) }
+        ensures stands { (state : StoreState) → StandsFor (F.state self.old.flash) self.old.end self.old.places.entries state
+            → OnOk result (StandsFor (F.state self.new.flash) self.new.end self.new.places.entries
+            (with_record (F.state self.old.flash).geometry.prog state key (record { flags = flags; bytes = value.now }))) }
+    {
+        let size = size_of_record(
+            self.flash.geometry().prog,
+            key.as_slice().len() as u32,
+            value.len() as u32,
+        );
+        self.places.insert(copy_of(&key)?, self.end)?;
+        if write_record(
+            &mut self.flash,
+            self.end,
+            &key,
+            value,
+            flags,
+            &mut self.work,
+        )
+        .is_err()
+        {
+            return Ok(refused(KvError::WriteFault));
+        }
+        self.end += size;
+        Ok(Reply::Done)
+    }
+
+    // The flags under a key, or none.
+    fn flags_under(&mut self, key: &Key) -> Result<u32, KvError>
+        requires { IsReady (F.state self.old.flash) self.old.end self.old.places.entries self.old.work.items }
+        ensures ready { IsReady (F.state self.new.flash) self.new.end self.new.places.entries self.new.work.items }
+        ensures reads { OnlyReads (F.state self.old.flash) (F.state self.new.flash) }
+        ensures end { self.new.end ≡ self.old.end }
+        ensures places { self.new.places.entries ≡ self.old.places.entries }
+        ensures flags { (state : StoreState) → StandsFor (F.state self.old.flash) self.old.end self.old.places.entries state → result ≡ Ok (flags_in state key.now) }
+    {
+        match self.place_of(key) {
+            None => Ok(0),
+            Some(place) => read_flags(&mut self.flash, place),
+        }
+    }
+
+    fn place_of(&self, key: &Key) -> Option<u32>
+        ensures { result ≡ place_of self.now.places.entries key.now }
+    {
+        self.places.get(key).copied()
+    }
+}
+
+// The reply of a get that read this.
+fn answer(read: Result<Vec<u8>, KvError>) -> Result<Reply, NoMemory>
+    ensures value { IfOk read (λ value. result ≡ Ok (Reply.Value value.items)) }
+    ensures memory { read ≡ Err KvError.Memory → IsErr result }
+{
+    match read {
+        Ok(value) => Ok(Reply::Value {
+            bytes: Bytes::from_vec(value),
+        }),
+        Err(KvError::Memory) => Err(NoMemory),
+        Err(error) => Ok(refused(error)),
+    }
+}
