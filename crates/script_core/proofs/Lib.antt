@@ -1,6 +1,12 @@
+pub mod Calls
+pub mod Cuts
 pub mod Digits
+pub mod LaterEnds
 pub mod Lines
+pub mod Modes
 pub mod Options
+pub mod Printing
+pub mod Rows
 pub mod Splits
 pub mod Texts
 pub mod Walk

@@ -1,130 +1,245 @@
 -- What is read of a line is what the line spells, and what it spells is read.
-use Rattle.std.proofs.Common.{◌≡◌, ℕ, ◌≤◌, eqb, Bool, true, false, cond, List, [], ◌∷◌, Option, Some, None, refl, sym, ap, subst, ◌∙◌, arith}
-use Rattle.std.specs.Prelude.{codes}
+use Rattle.std.proofs.Common.{◌≡◌, ◌++◌, ℕ, zero, suc, ◌^◌, ◌<◌, length, get_or, ◌≤◌, ◌⊎◌, inl, inr, eqb, ltb, Bool, true, false, cond, List, [], ◌∷◌, Some, None, refl, sym, ap, subst, ◌∙◌, arith}
+use Rattle.std.specs.Prelude.{codes, ◌&&◌, ◌||◌}
 use Rattle.std.specs.Fmt.{decimal}
 use Rattle.std.specs.List.{slice_split, join_with_byte}
 use Rattle.std.specs.Str.{bytes_eq}
+use Rattle.std.proofs.lemmas.Bool.{ltb-true, lt-ltb}
+use Rattle.std.proofs.lemmas.Fmt.{decimal_digit, decimal_nonempty, first_decimal}
+use Rattle.std.proofs.lemmas.List.{append-nil}
 use Rattle.std.proofs.lemmas.List.Splits.{join_with_byte-slice_split}
 use Rattle.std.proofs.lemmas.Slice.Eq.{bytes_eq-Decides}
 use Rattle.kv_model.specs.declared.call.Call.{Call}
 use Rattle.kv_model.specs.declared.call.Call.TheVariants as call
 use Rattle.script_core.specs.declared.line.Act.{Act}
-use Rattle.script_core.specs.declared.line.Act.TheVariants.{Do}
+use Rattle.script_core.specs.declared.line.Act.TheVariants.{Do, Cut}
 use Rattle.script_core.specs.declared.line.Line.{Line}
-use Rattle.script_core.specs.Grammar.{flags_word, IsAct, AreWords, Spells}
-use Rattle.script_core.specs.Reading.{◌>>=◌, word_at, end_at, number_up_to, key_of, bytes_of, flags_of, get_of, set_of, call_of, line_of}
-use Rattle.script_core.proofs.Options.{some_is, bind_some}
-use Rattle.script_core.proofs.Splits.{AreWhole, slice_split-join_with_byte}
-use Rattle.script_core.proofs.Words.{number_up_to-is_some, number_up_to-decimal, IsWhole-decimal, key_of-is_some, key_of-key, IsWhole-key, bytes_of-is_some, bytes_of-hex, IsWhole-hex, flags_of-is_some, flags_of-flags, IsWhole-flags}
+use Rattle.script_core.specs.Grammar.{flags_word, prefix_word, cut_word, IsAct, IsCaller, AreWords, Spells, EndsSet, is_skipped}
+use Rattle.script_core.specs.Reading.{◌>>=◌, word_at, end_at, number_up_to, lone_key_of, lone_number_of, part_of, set_of, start_of, add_of, open_of, bare, value_call_of, call_of, lone_cut_of, operator_act_of, act_of, line_of, ended_by}
+use Rattle.script_core.proofs.Calls.{call_of-is_some}
+use Rattle.script_core.proofs.Cuts.{lone_cut_of-is_some, lone_cut_of-word, IsClean-cut}
+use Rattle.script_core.proofs.Options.{some_is, chosen, bind_some, both, either}
+use Rattle.script_core.proofs.Rows.{field_some, end_some, named}
+use Rattle.script_core.proofs.Splits.{IsWhole, AreWhole, AreClean, AreWhole-clean, IsWhole-join_with_byte, slice_split-join_with_byte}
+use Rattle.script_core.proofs.Words.{number_of-decimal, number_up_to-is_some, number_up_to-decimal, IsWhole-decimal, IsClean-decimal, key_of-key, IsClean-key, prefix_of-prefix, IsClean-prefix, bytes_of-hex, IsClean-hex, flags_of-flags, IsClean-flags}
 
--- what a call may be, and the words for it
-abbrev pub IsCall : List (List ℕ) → Call → Type 0
-IsCall words asked = IsAct (Do asked) × AreWords words (Do asked)
+-- ---- acts
 
--- ---- words in a row
+-- what a caller may ask for, and the words for it
+abbrev IsAsked : ℕ → List (List ℕ) → Act → Type 0
+IsAsked who words act = IsCaller who act × IsAct act × AreWords words act
 
--- a word that is read, and what reads the words behind it
-field_some : {A B : Type 0} (read : List ℕ → Option A) (go_on : A → List (List ℕ) → Option B) (words : List (List ℕ)) (y : B)
-    → (word_at words >>= λ w. read w.0 >>= λ x. go_on x w.1) ≡ Some y
-    → (word : List ℕ) × (rest : List (List ℕ)) × (x : A) × (words ≡ word ∷ rest) × (read word ≡ Some x) × (go_on x rest ≡ Some y)
-field_some read go_on [] y h = absurd cc
-field_some read go_on (word ∷ rest) y h = let b = bind_some (read word) (λ x. go_on x rest) y h in (word, rest, b.0, refl, b.1, b.2)
+abbrev IsOperated : List (List ℕ) → List ℕ → Act → Type 0
+IsOperated words verb act = IsAsked 0 (verb ∷ words) act
 
--- the end of the words
-end_some : {B : Type 0} (words : List (List ℕ)) (x y : B) → (end_at words >>= λ _. Some x) ≡ Some y → (words ≡ []) × (x ≡ y)
-end_some [] x y h = (refl, some_is x y h)
-end_some (word ∷ words) x y h = absurd cc
+mount_is : (words : List (List ℕ)) (act : Act) → (bare call.Mount words >>= λ asked. Some (Do asked)) ≡ Some act → IsOperated words (codes "mount") act
+mount_is words act h =
+    let asked = bind_some (bare call.Mount words) (λ asked. Some (Do asked)) act h in
+    let end = end_some words call.Mount asked.0 asked.1 in
+    let is : Do call.Mount ≡ act = ap (λ (c : Call). Do c) end.1 ∙ some_is (Do asked.0) act asked.2 in
+    subst (IsOperated words (codes "mount")) {x = Do call.Mount} is (refl, tt, ap (λ (ws : List (List ℕ)). codes "mount" ∷ ws) end.0)
 
-abbrev after : List ℕ → List (List ℕ) → List (List ℕ)
-after word words = word ∷ words
+lone_cut_is : (words : List (List ℕ)) (act : Act) → lone_cut_of words ≡ Some act → IsOperated words (codes "cut") act
+lone_cut_is words act h =
+    let (word, words-are, (side, n, torn, is, valid, spelled)) = lone_cut_of-is_some words act h in
+    subst (IsOperated words (codes "cut")) {x = Cut side n torn} is (refl, valid, cc (words-are, spelled))
 
--- ---- calls
+operator_act_is : (verb : List ℕ) (words : List (List ℕ)) (act : Act) → operator_act_of verb words ≡ Some act → IsOperated words verb act
+unfolding operator_act_of
+operator_act_is verb words act =
+    named (IsOperated words) _ verb (codes "mount") act _ _ (mount_is words act)
+    (named (IsOperated words) _ verb (codes "cut") act _ _ (lone_cut_is words act) (λ h. absurd cc) refl) refl
 
-get_of-is_some : (words : List (List ℕ)) (asked : Call) → get_of words ≡ Some asked → IsCall (codes "get" ∷ words) asked
-unfolding get_of
-get_of-is_some words asked h =
-    let key = field_some key_of (λ key rest. end_at rest >>= λ _. Some (call.Get key)) words asked h in
-    let end = end_some key.1 (call.Get key.2) asked key.5 in
-    let read = key_of-is_some key.0 key.2 key.4 in
-    subst (IsCall (codes "get" ∷ words)) end.1 (read.1, cc (key.3, end.0, read.0))
+act_is : (who : ℕ) (operator : Bool) (verb : List ℕ) (words : List (List ℕ)) (act : Act) → who ≤ 16 → eqb who 0 ≡ operator
+    → cond operator (operator_act_of verb words) (call_of verb words >>= λ asked. Some (Do asked)) ≡ Some act → IsAsked who (verb ∷ words) act
+act_is who true verb words act low e h = let zero : who ≡ 0 = grind arith in subst (λ (n : ℕ). IsAsked n (verb ∷ words) act) (sym zero) (operator_act_is verb words act h)
+act_is who false verb words act low e h =
+    let some : 1 ≤ who = grind arith in
+    let asked = bind_some (call_of verb words) (λ asked. Some (Do asked)) act h in
+    let is = call_of-is_some verb words asked.0 asked.1 in
+    subst (IsAsked who (verb ∷ words)) {x = Do asked.0} (some_is (Do asked.0) act asked.2) (is.2 who some low, is.0, is.1)
 
-set_of-is_some : (words : List (List ℕ)) (asked : Call) → set_of words ≡ Some asked → IsCall (codes "set" ∷ words) asked
-unfolding set_of
-set_of-is_some words asked h =
-    let key = field_some key_of (λ key rest. word_at rest >>= λ w. bytes_of w.0 >>= λ value. word_at w.1 >>= λ w. flags_of w.0 >>= λ flags. end_at w.1 >>= λ _. Some (call.Set key value flags)) words asked h in
-    let value = field_some bytes_of (λ value rest. word_at rest >>= λ w. flags_of w.0 >>= λ flags. end_at w.1 >>= λ _. Some (call.Set key.2 value flags)) key.1 asked key.5 in
-    let flags = field_some flags_of (λ flags rest. end_at rest >>= λ _. Some (call.Set key.2 value.2 flags)) value.1 asked value.5 in
-    let end = end_some flags.1 (call.Set key.2 value.2 flags.2) asked flags.5 in
-    let read = key_of-is_some key.0 key.2 key.4 in
-    let letters = flags_of-is_some flags.0 flags.2 flags.4 in
-    subst (IsCall (codes "set" ∷ words)) end.1
-    ((read.1, letters.0), (value.0, bytes_of-is_some value.0 value.2 value.4, cc (key.3, value.3, flags.3, end.0, read.0, letters.1)))
+-- the words of an act, taken apart
+abbrev IsRead : ℕ → List (List ℕ) → Act → Type 0
+IsRead who words act = (verb : List ℕ) × (rest : List (List ℕ)) × (words ≡ verb ∷ rest) × (act_of who verb rest ≡ Some act) × AreClean words
 
-one_of : (same : Bool) (verb name : List ℕ) (words : List (List ℕ)) (asked : Call) (this others : Option Call) → (this ≡ Some asked → IsCall (name ∷ words) asked) → (others ≡ Some asked → IsCall (verb ∷ words) asked)
-    → bytes_eq verb name ≡ same → cond same this others ≡ Some asked → IsCall (verb ∷ words) asked
-one_of true verb name words asked this others found rest e h = subst (λ (w : List ℕ). IsCall (w ∷ words) asked) (sym ((bytes_eq-Decides verb name).0 e)) (found h)
-one_of false verb name words asked this others found rest e h = rest h
-
-call_of-is_some : (verb : List ℕ) (words : List (List ℕ)) (asked : Call) → call_of verb words ≡ Some asked → IsCall (verb ∷ words) asked
-unfolding call_of
-call_of-is_some verb words asked =
-    one_of _ verb (codes "get") words asked _ _ (get_of-is_some words asked)
-    (one_of _ verb (codes "set") words asked _ _ (set_of-is_some words asked) (λ e. absurd cc) refl) refl
-
--- the words of a call, taken apart
-abbrev IsRead : List (List ℕ) → Call → Type 0
-IsRead words asked = (verb : List ℕ) × (rest : List (List ℕ)) × (words ≡ verb ∷ rest) × (call_of verb rest ≡ Some asked) × AreWhole 32 words
-
-call_of-call : (words : List (List ℕ)) (asked : Call) → IsAct (Do asked) → AreWords words (Do asked) → IsRead words asked
-unfolding call_of get_of set_of
-call_of-call words (call.Get key) valid spelled =
-    (codes "get", key ∷ [], spelled, rw (key_of-key key valid) refl, rw spelled (refl, (IsWhole-key key valid, tt)))
-call_of-call words (call.Set key value flags) valid spelled = (
-  codes "set",
-  key ∷ spelled.0 ∷ flags_word flags.bits ∷ [],
-  spelled.2,
-  rw (key_of-key key valid.0, bytes_of-hex spelled.0 value spelled.1, flags_of-flags flags.bits valid.1) refl,
-  rw spelled.2 (refl, (IsWhole-key key valid.0, (IsWhole-hex spelled.0 value spelled.1, (IsWhole-flags flags.bits valid.1, tt)))),
-)
-call_of-call words _ valid spelled = absurd valid
+act_of-act : (who : ℕ) (words : List (List ℕ)) (act : Act) → IsAsked who words act → IsRead who words act
+unfolding act_of operator_act_of call_of value_call_of lone_key_of lone_number_of part_of set_of start_of add_of open_of
+act_of-act who words (Do (call.Get key)) (caller, valid, is) =
+    let client : eqb who 0 ≡ false = grind arith in
+    (codes "get", key ∷ [], is, rw (client, key_of-key key valid) refl, rw is ((refl, refl), (IsClean-key key valid, tt)))
+act_of-act who words (Do (call.Part key offset count)) (caller, valid, is) =
+    let client : eqb who 0 ≡ false = grind arith in (
+      codes "part",
+      key ∷ decimal offset ∷ decimal count ∷ [],
+      is,
+      rw (client, key_of-key key valid.0, number_of-decimal offset valid.1, number_of-decimal count valid.2) refl,
+      rw is ((refl, refl), (IsClean-key key valid.0, (IsClean-decimal offset (omega arith), (IsClean-decimal count (omega arith), tt)))),
+    )
+act_of-act who words (Do (call.Info key)) (caller, valid, is) =
+    let client : eqb who 0 ≡ false = grind arith in
+    (codes "info", key ∷ [], is, rw (client, key_of-key key valid) refl, rw is ((refl, refl), (IsClean-key key valid, tt)))
+act_of-act who words (Do (call.Set key value flags)) (caller, valid, (digits, hex, is)) =
+    let client : eqb who 0 ≡ false = grind arith in (
+      codes "set",
+      key ∷ digits ∷ flags_word flags.bits ∷ [],
+      is,
+      rw (client, key_of-key key valid.0, bytes_of-hex digits value hex, flags_of-flags flags.bits valid.1) refl,
+      rw is ((refl, refl), (IsClean-key key valid.0, (IsClean-hex digits value hex, (IsClean-flags flags.bits valid.1, tt)))),
+    )
+act_of-act who words (Do (call.Remove key)) (caller, valid, is) =
+    let client : eqb who 0 ≡ false = grind arith in
+    (codes "remove", key ∷ [], is, rw (client, key_of-key key valid) refl, rw is ((refl, refl), (IsClean-key key valid, tt)))
+act_of-act who words (Do (call.Start key size flags)) (caller, valid, is) =
+    let client : eqb who 0 ≡ false = grind arith in (
+      codes "start",
+      key ∷ decimal size ∷ flags_word flags.bits ∷ [],
+      is,
+      rw (client, key_of-key key valid.0, number_of-decimal size valid.1, flags_of-flags flags.bits valid.2) refl,
+      rw is ((refl, refl), (IsClean-key key valid.0, (IsClean-decimal size (omega arith), (IsClean-flags flags.bits valid.2, tt)))),
+    )
+act_of-act who words (Do (call.Add value)) (caller, valid, (digits, hex, is)) =
+    let client : eqb who 0 ≡ false = grind arith in
+    (codes "add", digits ∷ [], is, rw (client, bytes_of-hex digits value hex) refl, rw is ((refl, refl), (IsClean-hex digits value hex, tt)))
+act_of-act who words (Do call.Finish) (caller, valid, is) =
+    let client : eqb who 0 ≡ false = grind arith in
+    (codes "finish", [], is, rw client refl, rw is ((refl, refl), tt))
+act_of-act who words (Do call.Abort) (caller, valid, is) =
+    let client : eqb who 0 ≡ false = grind arith in
+    (codes "abort", [], is, rw client refl, rw is ((refl, refl), tt))
+act_of-act who words (Do (call.IterOpen n prefix)) (caller, valid, is) =
+    let client : eqb who 0 ≡ false = grind arith in (
+      codes "open",
+      decimal n ∷ prefix_word prefix ∷ [],
+      is,
+      rw (client, number_up_to-decimal 255 n valid.0 (omega arith), prefix_of-prefix prefix valid.1) refl,
+      rw is ((refl, refl), (IsClean-decimal n (omega arith), (IsClean-prefix prefix valid.1, tt))),
+    )
+act_of-act who words (Do (call.Next n)) (caller, valid, is) =
+    let client : eqb who 0 ≡ false = grind arith in
+    (codes "next", decimal n ∷ [], is, rw (client, number_up_to-decimal 255 n valid (omega arith)) refl, rw is ((refl, refl), (IsClean-decimal n (omega arith), tt)))
+act_of-act who words (Do (call.IterClose n)) (caller, valid, is) =
+    let client : eqb who 0 ≡ false = grind arith in
+    (codes "close", decimal n ∷ [], is, rw (client, number_up_to-decimal 255 n valid (omega arith)) refl, rw is ((refl, refl), (IsClean-decimal n (omega arith), tt)))
+act_of-act who words (Do call.Reset) (caller, valid, is) =
+    let client : eqb who 0 ≡ false = grind arith in
+    (codes "reset", [], is, rw client refl, rw is ((refl, refl), tt))
+act_of-act who words (Do call.Mount) (caller, valid, is) = (codes "mount", [], is, rw caller refl, rw is ((refl, refl), tt))
+act_of-act who words (Cut side n torn) (caller, valid, is) =
+    (codes "cut", cut_word side n torn ∷ [], is, rw (caller, lone_cut_of-word side n torn valid) refl, rw is ((refl, refl), (IsClean-cut side n torn valid, tt)))
 
 -- ---- lines
 
-nonzero : (who : ℕ) (is_zero : Bool) (asked : Option Call) (x : Call) → eqb who 0 ≡ is_zero → cond is_zero None asked ≡ Some x → (1 ≤ who) × (asked ≡ Some x)
-nonzero who true asked x e h = absurd cc
-nonzero who false asked x e h = (grind arith, h)
-
-asked_some : (who : ℕ) (words : List (List ℕ)) (line : Line)
-    → (word_at words >>= λ verb. (cond (eqb who 0) None (call_of verb.0 verb.1)) >>= λ asked. Some (record { who = who; act = Do asked })) ≡ Some line
-    → (asked : Call) × (1 ≤ who) × IsCall words asked × (record { who = who; act = Do asked } ≡ line)
-asked_some who [] line h = absurd cc
-asked_some who (verb ∷ rest) line h =
-    let b = bind_some (cond (eqb who 0) None (call_of verb rest)) (λ asked. Some (record { who = who; act = Do asked })) line h in
-    let n = nonzero who _ (call_of verb rest) b.0 refl b.1 in
-    (b.0, n.0, call_of-is_some verb rest b.0 n.1, some_is _ line b.2)
+act_some : (who : ℕ) (words : List (List ℕ)) (line : Line) → who ≤ 16
+    → (word_at words >>= λ verb. act_of who verb.0 verb.1 >>= λ act. Some (record { who = who; act = act })) ≡ Some line
+    → (act : Act) × IsAsked who words act × (record { who = who; act = act } ≡ line)
+unfolding act_of
+act_some who [] line low h = absurd cc
+act_some who (verb ∷ rest) line low h =
+    let b = bind_some (act_of who verb rest) (λ act. Some (record { who = who; act = act })) line h in
+    (b.0, act_is who _ verb rest b.0 low refl b.1, some_is _ line b.2)
 
 pub line_of-is_some : (text : List ℕ) (line : Line) → line_of text ≡ Some line → Spells text line
 unfolding line_of
 line_of-is_some text line h =
-    let caller = field_some (number_up_to 16) (λ who rest. word_at rest >>= λ verb. (cond (eqb who 0) None (call_of verb.0 verb.1)) >>= λ asked. Some (record { who = who; act = Do asked })) (slice_split (λ b. eqb b 32) text) line h in
+    let caller = field_some (number_up_to 16) (λ who rest. word_at rest >>= λ verb. act_of who verb.0 verb.1 >>= λ act. Some (record { who = who; act = act })) (slice_split (λ b. eqb b 32) text) line h in
     let who = number_up_to-is_some 16 caller.0 caller.2 caller.4 in
-    let asked = asked_some caller.2 caller.1 line caller.5 in
+    let asked = act_some caller.2 caller.1 line who.1 caller.5 in
     let words : text ≡ join_with_byte 32 (decimal caller.2 ∷ caller.1) =
     sym (join_with_byte-slice_split 32 text) ∙ ap (join_with_byte 32) (caller.3 ∙ ap (λ (w : List ℕ). w ∷ caller.1) who.0) in
-    subst (Spells text) asked.3 (((asked.1, who.1), asked.2.0), (caller.1, asked.2.1, words))
+    subst (Spells text) {x = record { who = caller.2; act = asked.0 }} asked.2 ((asked.1.0, asked.1.1), (caller.1, asked.1.2, words))
 
-spelled : (text : List ℕ) (who : ℕ) (act : Act) → Spells text (record { who = who; act = act }) → line_of text ≡ Some (record { who = who; act = act })
-unfolding line_of
-spelled text who (Do asked) h =
-    let r = call_of-call h.1.0 asked h.0.1 h.1.1 in
-    let split : slice_split (λ b. eqb b 32) text ≡ decimal who ∷ h.1.0 =
-    ap (slice_split (λ b. eqb b 32)) h.1.2 ∙ slice_split-join_with_byte 32 (decimal who) h.1.0 (IsWhole-decimal who (omega arith)) r.4 in
-    let some : eqb who 0 ≡ false = grind arith in
-    rw (split, number_up_to-decimal 16 who h.0.0.1 (omega arith), r.2, some, r.3) refl
-spelled text who _ h = absurd h.0.1
+caller_low : (who : ℕ) (act : Act) → IsCaller who act → who ≤ 16
+caller_low who (Do call.Mount) h = omega arith
+caller_low who (Cut side n torn) h = omega arith
+caller_low who (Do _) h = h.1
+
+-- the words of a line that is spelled
+words_of : (text : List ℕ) (who : ℕ) (words : List (List ℕ)) → who ≤ 16 → AreWhole 32 words → text ≡ join_with_byte 32 (decimal who ∷ words) → slice_split (λ b. eqb b 32) text ≡ decimal who ∷ words
+words_of text who words low whole is =
+    ap (slice_split (λ b. eqb b 32)) is ∙ slice_split-join_with_byte 32 (decimal who) words (IsWhole-decimal 32 who refl (omega arith)) whole
 
 pub line_of-spelled : (text : List ℕ) (line : Line) → Spells text line → line_of text ≡ Some line
-line_of-spelled text line h = spelled text line.who line.act h
+unfolding line_of
+line_of-spelled text line h =
+    let low = caller_low line.who line.act h.0.0 in
+    let r = act_of-act line.who h.1.0 line.act (h.0.0, h.0.1, h.1.1) in
+    let split = words_of text line.who h.1.0 low (AreWhole-clean h.1.0 r.4).0 h.1.2 in
+    rw (split, number_up_to-decimal 16 line.who low (omega arith), r.2, r.3) refl
 
 pub one_line : (text : List ℕ) (a b : Line) → Spells text a → Spells text b → a ≡ b
 one_line text a b h k = some_is a b (sym (line_of-spelled text a h) ∙ line_of-spelled text b k)
+
+-- ---- lines that end a set
+
+verb_is : (verb name : List ℕ) → bytes_eq verb name ≡ true → verb ≡ name
+verb_is verb name h = (bytes_eq-Decides verb name).0 h
+
+ended_some : (who : ℕ) (words : List (List ℕ)) (client : ℕ)
+    → (word_at words >>= λ verb. end_at verb.1 >>= λ _. cond (ltb 0 who && (bytes_eq verb.0 (codes "finish") || bytes_eq verb.0 (codes "abort"))) (Some who) None) ≡ Some client
+    → (who ≡ client) × (1 ≤ who) × ((words ≡ codes "finish" ∷ []) ⊎ (words ≡ codes "abort" ∷ []))
+ended_some who [] client h = absurd cc
+ended_some who (verb ∷ other ∷ rest) client h = absurd cc
+ended_some who (verb ∷ []) client h =
+    let c = chosen (ltb 0 who && (bytes_eq verb (codes "finish") || bytes_eq verb (codes "abort"))) who client h in
+    let parts = both (ltb 0 who) (bytes_eq verb (codes "finish") || bytes_eq verb (codes "abort")) c.0 in (
+      c.1,
+      ltb-true _ _ parts.0,
+      elim (either _ _ parts.1) [
+        | inl yes_finish ↦ inl (ap (λ (w : List ℕ). w ∷ []) (verb_is verb (codes "finish") yes_finish))
+        | inr yes_abort ↦ inr (ap (λ (w : List ℕ). w ∷ []) (verb_is verb (codes "abort") yes_abort))
+      ],
+    )
+
+pub ended_by-is_some : (text : List ℕ) (who : ℕ) → ended_by text ≡ Some who → EndsSet who text
+unfolding ended_by
+ended_by-is_some text client h =
+    let caller = field_some (number_up_to 16) (λ who rest. word_at rest >>= λ verb. end_at verb.1 >>= λ _. cond (ltb 0 who && (bytes_eq verb.0 (codes "finish") || bytes_eq verb.0 (codes "abort"))) (Some who) None)
+    (slice_split (λ b. eqb b 32) text) client h in
+    let who = number_up_to-is_some 16 caller.0 caller.2 caller.4 in
+    let end = ended_some caller.2 caller.1 client caller.5 in
+    let words : text ≡ join_with_byte 32 (decimal caller.2 ∷ caller.1) =
+    sym (join_with_byte-slice_split 32 text) ∙ ap (join_with_byte 32) (caller.3 ∙ ap (λ (w : List ℕ). w ∷ caller.1) who.0) in
+    subst (λ (n : ℕ). EndsSet n text) end.0 (elim end.2 [
+      | inl finish ↦ inl (((end.1, who.1), tt), (caller.1, finish, words))
+      | inr abort ↦ inr (((end.1, who.1), tt), (caller.1, abort, words))
+    ])
+
+pub ended_by-ends : (text : List ℕ) (who : ℕ) → EndsSet who text → ended_by text ≡ Some who
+unfolding ended_by
+ended_by-ends text who (inl h) =
+    let r = act_of-act who h.1.0 (Do call.Finish) (h.0.0, h.0.1, h.1.1) in
+    let split = words_of text who h.1.0 h.0.0.1 (AreWhole-clean h.1.0 r.4).0 h.1.2 in
+    let client : ltb 0 who ≡ true = lt-ltb _ _ h.0.0.0 in
+    rw (split, number_up_to-decimal 16 who h.0.0.1 (omega arith), h.1.1, client) refl
+ended_by-ends text who (inr h) =
+    let r = act_of-act who h.1.0 (Do call.Abort) (h.0.0, h.0.1, h.1.1) in
+    let split = words_of text who h.1.0 h.0.0.1 (AreWhole-clean h.1.0 r.4).0 h.1.2 in
+    let client : ltb 0 who ≡ true = lt-ltb _ _ h.0.0.0 in
+    rw (split, number_up_to-decimal 16 who h.0.0.1 (omega arith), h.1.1, client) refl
+
+-- ---- a line alone
+
+not_skipped_digits : (digits rest : List ℕ) → 0 < length digits → 48 ≤ get_or digits 0 0 → is_skipped (digits ++ rest) ≡ false
+not_skipped_digits [] rest long first = absurd (omega arith)
+not_skipped_digits (b ∷ bs) rest long first = let other : eqb b 35 ≡ false = grind arith in other
+
+front : (word : List ℕ) (words : List (List ℕ)) → (rest : List ℕ) × (join_with_byte 32 (word ∷ words) ≡ word ++ rest)
+front word [] = ([], sym (append-nil word))
+front word (next ∷ words) = (32 ∷ join_with_byte 32 (next ∷ words), refl)
+
+first_digit : (n : ℕ) → n < 2 ^ 64 → 48 ≤ get_or (decimal n) 0 0
+first_digit zero h = rw (decimal_digit 0 (omega arith)) (omega arith)
+first_digit (suc n) h = let first = first_decimal (suc n) (omega arith) h in omega arith
+
+-- a line that is spelled has no line feed and is not skipped
+pub Spells-alone : (text : List ℕ) (line : Line) → Spells text line → IsWhole 10 text × (is_skipped text ≡ false)
+Spells-alone text line h =
+    let low = caller_low line.who line.act h.0.0 in
+    let wide : line.who < 2 ^ 64 = omega arith in
+    let r = act_of-act line.who h.1.0 line.act (h.0.0, h.0.1, h.1.1) in
+    let start = front (decimal line.who) h.1.0 in
+    let whole = IsWhole-join_with_byte 10 32 (decimal line.who) h.1.0 refl (IsClean-decimal line.who wide).1 (AreWhole-clean h.1.0 r.4).1 in (
+      subst (IsWhole 10) (sym h.1.2) whole,
+      ap is_skipped (h.1.2 ∙ start.1) ∙ not_skipped_digits (decimal line.who) start.0 (decimal_nonempty line.who wide) (first_digit line.who wide),
+    )

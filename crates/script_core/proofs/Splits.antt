@@ -7,6 +7,7 @@ use Rattle.std.proofs.lemmas.List.{length-drop, take_all}
 use Rattle.script_core.specs.Reading.{end_at}
 use Rattle.script_core.proofs.Options.{chosen, not_chosen, both}
 use Rattle.std.specs.Cmp.Derive.{both_true}
+use Rattle.std.proofs.lemmas.List.Folds.{list_all-append}
 use Rattle.std.proofs.lemmas.List.Splits.{slice_split_first, slice_split-cons_no, slice_split-cons_yes, length-slice_split}
 
 pub slice_split-is_some : (p : ℕ → Bool) (bytes : List ℕ) (end : ℕ) → position p bytes ≡ Some end
@@ -81,3 +82,24 @@ slice_split-joined c [] last hs h = split_last c last h
 slice_split-joined c (line ∷ lines) last hs h =
     let e : ((line ++ c ∷ []) ++ flat_map (λ l. l ++ c ∷ []) lines) ++ last ≡ line ++ c ∷ (flat_map (λ l. l ++ c ∷ []) lines ++ last) = simp append_assoc in
     rw e (split_front c line (flat_map (λ l. l ++ c ∷ []) lines ++ last) hs.0 ∙ ap (λ (ls : List (List ℕ)). line ∷ ls) (slice_split-joined c lines last hs.1 h))
+
+-- words without a byte, put together with another byte
+pub IsWhole-join_with_byte : (c d : ℕ) (word : List ℕ) (words : List (List ℕ)) → eqb d c ≡ false → IsWhole c word → AreWhole c words → IsWhole c (join_with_byte d (word ∷ words))
+IsWhole-join_with_byte c d word [] other h hs = h
+IsWhole-join_with_byte c d word (next ∷ words) other h hs =
+    list_all-append (λ b. not (eqb b c)) word (d ∷ join_with_byte d (next ∷ words))
+    ∙ both_true h (both_true (ap not other) (IsWhole-join_with_byte c d next words other hs.0 hs.1))
+
+-- a word without a space and without a line feed
+abbrev pub IsClean : List ℕ → Type 0
+IsClean word = IsWhole 32 word × IsWhole 10 word
+
+abbrev pub AreClean : List (List ℕ) → Type 0
+AreClean words = AllByRecursion IsClean words
+
+pub IsClean-tested : (p : ℕ → Bool) → p 32 ≡ false → p 10 ≡ false → (word : List ℕ) → list_all p word ≡ true → IsClean word
+IsClean-tested p space feed word h = (IsWhole-tested p 32 space word h, IsWhole-tested p 10 feed word h)
+
+pub AreWhole-clean : (words : List (List ℕ)) → AreClean words → AreWhole 32 words × AreWhole 10 words
+AreWhole-clean [] h = (tt, tt)
+AreWhole-clean (word ∷ words) h = let rest = AreWhole-clean words h.1 in ((h.0.0, rest.0), (h.0.1, rest.1))

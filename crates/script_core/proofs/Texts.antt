@@ -1,8 +1,8 @@
 -- What is read of a text is what the grammar says of it, and what the grammar says of it is read.
-use Rattle.std.proofs.Common.{◌≡◌, ℕ, ◌+◌, ◌<◌, ◌≤◌, leb, ltb, Bool, true, false, cond, List, [], ◌∷◌, ◌++◌, length, Option, Some, None, Ok, Err, refl, sym, ap, subst, ◌∙◌, append_assoc, arith}
-use Rattle.std.specs.Prelude.{not, ◌||◌, MatchBool}
+use Rattle.std.proofs.Common.{◌≡◌, ℕ, ◌+◌, ◌<◌, ◌≤◌, ltb, Bool, true, false, cond, List, [], ◌∷◌, ◌++◌, length, Option, Some, None, Ok, Err, refl, sym, ap, subst, ◌∙◌, append_assoc, arith}
+use Rattle.std.specs.Prelude.{MatchBool}
 use Rattle.std.specs.List.{All}
-use Rattle.std.proofs.lemmas.Bool.{ltb-true, ltb-false, lt-ltb, leb-true, le-leb}
+use Rattle.std.proofs.lemmas.Bool.{ltb-true, ltb-false, lt-ltb}
 use Rattle.std.proofs.lemmas.List.{append-nil, length-append}
 use Rattle.std.proofs.lemmas.List.Elements.{All-nil, All-cons}
 use Rattle.script_core.specs.declared.error.ScriptError.{ScriptError}
@@ -10,28 +10,8 @@ use Rattle.script_core.specs.declared.error.ScriptError.TheVariants as faults
 use Rattle.script_core.specs.declared.line.Line.{Line}
 use Rattle.script_core.specs.declared.script.ScriptMode.{ScriptMode}
 use Rattle.script_core.specs.Grammar.{IsLine, lines_of, is_skipped, IsGood, Read, most_lines, AreLines, IsScript, ReadsUpTo, IsFirstBad, IsOneTooMany}
-use Rattle.script_core.specs.Reading.{Outcome, Ends, is_allowed, line_of, good_line_of, add_line, then_read, read_from, read_text}
-use Rattle.script_core.proofs.Lines.{line_of-is_some, line_of-spelled}
-use Rattle.script_core.proofs.Options.{chosen, bind_some}
-
--- ---- good lines
-
-allowed : (threads : Bool) (who : ℕ) → (not threads || leb 1 who) ≡ true → MatchBool threads (1 ≤ who) (Unit {0})
-allowed true who h = leb-true 1 who h
-allowed false who h = tt
-
-is_allowed-allowed : (threads : Bool) (who : ℕ) → MatchBool threads (1 ≤ who) (Unit {0}) → (not threads || leb 1 who) ≡ true
-is_allowed-allowed true who h = le-leb 1 who h
-is_allowed-allowed false who h = refl
-
-good_line_of-is_some : (mode : ScriptMode) (later : List (List ℕ)) (text : List ℕ) (line : Line) → good_line_of mode later text ≡ Some line → IsGood mode later text line
-good_line_of-is_some mode later text line h =
-    let b = bind_some (line_of text) (λ read. cond (is_allowed mode later read) (Some read) None) line h in
-    let c = chosen (is_allowed mode later b.0) b.0 line b.2 in
-    subst (IsGood mode later text) c.1 (line_of-is_some text b.0 b.1, allowed mode.threads b.0.who c.0)
-
-good_line_of-good : (mode : ScriptMode) (later : List (List ℕ)) (text : List ℕ) (line : Line) → IsGood mode later text line → good_line_of mode later text ≡ Some line
-good_line_of-good mode later text line h = rw (line_of-spelled text line h.0, is_allowed-allowed mode.threads line.who h.1) refl
+use Rattle.script_core.specs.Reading.{Outcome, Ends, good_line_of, add_line, then_read, read_from, read_text}
+use Rattle.script_core.proofs.Modes.{good_line_of-is_some, good_line_of-good}
 
 -- ---- what is read has its meaning
 

@@ -1,12 +1,15 @@
 //! Scripts: the lines that a text asks a store to do, one call or one power cut each.
 #![tactic(auto)]
 
+mod cut;
+mod ends;
 mod error;
 mod fields;
 mod laws;
 mod line;
 mod parse;
 mod parts;
+mod print;
 mod reading;
 mod script;
 #[cfg(test)]
@@ -16,4 +19,5 @@ pub use error::ScriptError;
 pub use laws::{a_line_has_one_reading, a_text_has_one_reading, lines_end_in_line_feeds};
 pub use line::{Act, Line, Side};
 pub use parse::parse_script;
+pub use print::print_line;
 pub use script::{Script, ScriptMode};

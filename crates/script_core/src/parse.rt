@@ -1,13 +1,15 @@
 ghost use Rattle.std.specs.Prelude.{◌≡◌, ◌<◌, ◌+◌, ◌^◌, ◌⊎◌, ℕ, List, length, IfOk, MatchResult};
 ghost use Rattle.script_core.specs.declared.line.Line.{Line};
 ghost use Rattle.script_core.specs.Grammar.{is_skipped, IsScript, IsFirstBad, IsOneTooMany};
-ghost use Rattle.script_core.specs.Reading.{GivesIt, Ends, IsOutcome, Answers, good_line_of, read_one, read_text};
+ghost use Rattle.script_core.specs.Reading.{GivesIt, Ends, IsOutcome, Answers, TellsEnds, is_allowed, good_line_of, read_one, read_text};
 
+use crate::ends::last_ends;
 use crate::error::{ReadError, ScriptError};
-use crate::line::Line;
+use crate::line::{Act, Line, Side};
 use crate::parts::Parts;
 use crate::reading;
 use crate::script::{Script, ScriptMode};
+use kv_model::Call;
 use std::alloc::Global;
 
 const MOST_LINES: usize = 8192;
@@ -21,12 +23,39 @@ fn is_skipped(line: &[u8]) -> bool
     }
 }
 
-// A line of a text that the mode allows.
-fn good_line(alloc: Global, mode: ScriptMode, text: &[u8]) -> Result<Line, ReadError>
-    ensures { (later : List (List ℕ)) → GivesIt result (good_line_of mode later text.now) }
+// Whether the mode allows a line, where a later line ends the client's incremental set or none does.
+fn is_allowed(mode: ScriptMode, is_ended: bool, line: &Line) -> bool
+    ensures { result ≡ is_allowed mode is_ended line.now }
+{
+    let is_start = matches!(
+        line.act,
+        Act::Do {
+            call: Call::Start { .. }
+        }
+    );
+    let cuts_rollback = matches!(
+        line.act,
+        Act::Cut {
+            side: Side::Rollback,
+            ..
+        }
+    );
+    (!mode.threads || (line.who >= 1 && (!is_start || is_ended))) && (mode.secure || !cuts_rollback)
+}
+
+// The line of this number, if the mode allows it.
+fn good_line(
+    alloc: Global,
+    mode: ScriptMode,
+    ends: &[u32; 17],
+    number: u32,
+    text: &[u8],
+) -> Result<Line, ReadError>
+    ensures { (later : List (List ℕ)) → TellsEnds ends.now number later → GivesIt result (good_line_of mode later text.now) }
 {
     let line = reading::line(alloc, text)?;
-    if mode.threads && line.who == 0 {
+    let is_ended = ends[usize::from(line.who)] > number;
+    if !is_allowed(mode, is_ended, &line) {
         return Err(ReadError::Malformed);
     }
     Ok(line)
@@ -36,17 +65,18 @@ fn good_line(alloc: Global, mode: ScriptMode, text: &[u8]) -> Result<Line, ReadE
 fn read_one(
     alloc: Global,
     mode: ScriptMode,
+    ends: &[u32; 17],
     number: u32,
     lines: &mut Vec<Line>,
     text: &[u8],
 ) -> Result<(), ScriptError>
-    ensures { (later : List (List ℕ)) → let read = read_one mode number lines.old.items text.now later in
+    ensures { (later : List (List ℕ)) → TellsEnds ends.now number later → let read = read_one mode number lines.old.items text.now later in
         MatchResult result (λ _. read ≡ Ok lines.new.items) (λ fault. Ends fault read) }
 {
     if is_skipped(text) {
         return Ok(());
     }
-    let line = match good_line(alloc, mode, text) {
+    let line = match good_line(alloc, mode, ends, number, text) {
         Ok(line) => line,
         Err(ReadError::Malformed) => return Err(ScriptError::BadLine { line: number }),
         Err(ReadError::Memory) => return Err(ScriptError::Memory),
@@ -64,11 +94,12 @@ fn read(alloc: Global, mode: ScriptMode, bytes: &[u8]) -> Result<Vec<Line>, Scri
     requires { length bytes.now + 1 < 2 ^ 32 }
     ensures { IsOutcome (λ lines. lines.items) result (read_text mode bytes.now) }
 {
+    let ends = last_ends(bytes);
     let mut lines = Vec::new(alloc);
     let mut number = 0u32;
     for text in Parts::new(b'\n', bytes) {
         number += 1;
-        read_one(alloc, mode, number, &mut lines, text)?;
+        read_one(alloc, mode, &ends, number, &mut lines, text)?;
     }
     Ok(lines)
 }

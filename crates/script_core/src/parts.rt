@@ -29,7 +29,7 @@ pub(crate) struct Parts<'a> {
 }
 
 impl<'a> Parts<'a> {
-    ghost use Rattle.std.specs.Prelude.{◌≡◌, ◌≢◌, ◌==◌, [], ◌∷◌, MatchResult, Some, None};
+    ghost use Rattle.std.specs.Prelude.{◌≡◌, ◌≢◌, ◌==◌, [], ◌∷◌, MatchResult, IfErr, Some, None};
     ghost use Rattle.std.specs.List.{slice_split};
     ghost use Rattle.script_core.specs.declared.error.ReadError.TheVariants.{Malformed};
     ghost use Rattle.script_core.specs.Parts.{parts_left};
@@ -54,7 +54,8 @@ impl<'a> Parts<'a> {
 
     // No part is left.
     pub(crate) fn end(self) -> Result<(), ReadError>
-        ensures { GivesIt result (end_at (parts_left self.entry)) }
+        ensures end { GivesIt result (end_at (parts_left self.entry)) }
+        ensures malformed { IfErr result (λ e. e ≡ Malformed) }
     {
         match self.rest {
             None => Ok(()),

@@ -1,10 +1,20 @@
 use super::*;
-use kv_model::{Bytes, Call, Flags, NoMemory};
+use kv_model::{Bytes, Call, Flags, NoMemory, Pattern};
 use std::alloc::Global;
 use std::test::Fail;
 
 const PLAIN: ScriptMode = ScriptMode {
     threads: false,
+    secure: false,
+};
+
+const SECURE: ScriptMode = ScriptMode {
+    threads: false,
+    secure: true,
+};
+
+const THREADS: ScriptMode = ScriptMode {
+    threads: true,
     secure: false,
 };
 
@@ -51,18 +61,100 @@ fn a_set_and_a_get(rt: HostRuntime) -> Result<(), Fail> {
 }
 
 #[test]
+fn each_form_of_a_line(rt: HostRuntime) -> Result<(), Fail> {
+    let text =
+        b"3 part k 0 4294967295\n3 start k 7 cr\n3 add -\n3 open 255 a*b*\n0 cut r:9:mix:0\n";
+    let script = parse_script(rt.alloc(), text, SECURE)?;
+    let key = bytes(rt.alloc(), b"k")?;
+    let part = Call::Part {
+        key,
+        offset: 0,
+        count: 4_294_967_295,
+    };
+    let key = bytes(rt.alloc(), b"k")?;
+    let start = Call::Start {
+        key,
+        size: 7,
+        flags: Flags { bits: 10 },
+    };
+    let add = Call::Add {
+        value: Bytes::empty(rt.alloc()),
+    };
+    let open = Call::IterOpen {
+        n: 255,
+        prefix: bytes(rt.alloc(), b"a*b")?,
+    };
+    let cut = Act::Cut {
+        side: Side::Rollback,
+        n: 9,
+        pattern: Pattern::Mix { seed: 0 },
+    };
+    let lines = script.lines();
+    assert_eq!(rt; lines.len(), 5);
+    assert_eq!(rt;
+        lines[0],
+        Line {
+            who: 3,
+            act: Act::Do { call: part }
+        }
+    );
+    assert_eq!(rt;
+        lines[1],
+        Line {
+            who: 3,
+            act: Act::Do { call: start }
+        }
+    );
+    assert_eq!(rt;
+        lines[2],
+        Line {
+            who: 3,
+            act: Act::Do { call: add }
+        }
+    );
+    assert_eq!(rt;
+        lines[3],
+        Line {
+            who: 3,
+            act: Act::Do { call: open }
+        }
+    );
+    assert_eq!(rt; lines[4], Line { who: 0, act: cut });
+    Ok(())
+}
+
+#[test]
 fn texts_that_are_scripts(rt: HostRuntime) -> Result<(), Fail> {
-    let texts: [(&[u8], usize); 7] = [
-        (b"", 0),
-        (b"\n", 0),
-        (b"# a comment", 0),
-        (b"#\n\n1 get a\n", 1),
-        (b"1 set a 00ff -\n1 get a", 2),
-        (b"1 set a - -\n", 1),
-        (b"1 set a 0aA0 wcr\n# get\n", 1),
+    let texts: [(&[u8], ScriptMode, usize); 14] = [
+        (b"", PLAIN, 0),
+        (b"\n", PLAIN, 0),
+        (b"# a comment", PLAIN, 0),
+        (b"#\n\n1 get a\n", PLAIN, 1),
+        (b"1 set a 00ff -\n1 get a", PLAIN, 2),
+        (b"1 set a - -\n", PLAIN, 1),
+        (b"1 set a 0aA0 wcr\n# get\n", PLAIN, 1),
+        (
+            b"1 info a\n1 remove a\n2 finish\n2 abort\n2 reset",
+            PLAIN,
+            5,
+        ),
+        (b"1 open 0 *\n1 next 0\n1 close 0", PLAIN, 3),
+        (
+            b"0 mount\n0 cut p:1:none\n0 cut p:4294967295:half",
+            PLAIN,
+            3,
+        ),
+        (
+            b"0 cut r:1:zero\n0 cut r:10:all\n0 cut p:1:mix:4294967295",
+            SECURE,
+            3,
+        ),
+        (b"1 start a 1 -", PLAIN, 1),
+        (b"1 start a 1 -\n2 get a\n1 abort", THREADS, 3),
+        (b"1 start a 1 -\n1 start b 2 -\n1 finish", THREADS, 3),
     ];
-    for (text, lines) in texts {
-        assert_eq!(rt; count(rt.alloc(), text, PLAIN), Ok(lines));
+    for (text, mode, lines) in texts {
+        assert_eq!(rt; count(rt.alloc(), text, mode), Ok(lines));
     }
     Ok(())
 }
@@ -100,6 +192,79 @@ fn bad_lines_are_named_by_their_number(rt: HostRuntime) -> Result<(), Fail> {
             count(rt.alloc(), text, PLAIN),
             Err(ScriptError::BadLine { line })
         );
+    }
+    Ok(())
+}
+
+#[test]
+fn lines_that_a_number_or_a_mode_makes_bad(rt: HostRuntime) -> Result<(), Fail> {
+    let texts: [(&[u8], ScriptMode, u32); 24] = [
+        (b"1 part a 0", PLAIN, 1),
+        (b"1 part a 00 1", PLAIN, 1),
+        (b"1 part a 0 4294967296", PLAIN, 1),
+        (b"1 start a - -", PLAIN, 1),
+        (b"1 add 0", PLAIN, 1),
+        (b"1 add", PLAIN, 1),
+        (b"1 finish a", PLAIN, 1),
+        (b"1 open 256 *", PLAIN, 1),
+        (b"1 open 0 a", PLAIN, 1),
+        (b"1 next 256", PLAIN, 1),
+        (b"1 mount", PLAIN, 1),
+        (b"1 cut p:1:none", PLAIN, 1),
+        (b"0 cut p:0:none", SECURE, 1),
+        (b"0 cut q:1:none", SECURE, 1),
+        (b"0 cut p:1:some", SECURE, 1),
+        (b"0 cut p:1:mix", SECURE, 1),
+        (b"0 cut p:1:mix:01", SECURE, 1),
+        (b"0 cut p:1", SECURE, 1),
+        (b"0 mount\n0 cut r:1:none", PLAIN, 2),
+        (b"0 mount", THREADS, 1),
+        (b"1 get a\n0 cut p:1:none", THREADS, 2),
+        (b"1 start a 1 -\n1 add 00", THREADS, 1),
+        (b"1 start a 1 -\n2 finish\n1 finish 1", THREADS, 1),
+        (b"1 finish\n1 start a 1 -\n1 frob", THREADS, 2),
+    ];
+    for (text, mode, line) in texts {
+        assert_eq!(rt;
+            count(rt.alloc(), text, mode),
+            Err(ScriptError::BadLine { line })
+        );
+    }
+    // A set that a line behind a bad line ends does not make its start bad.
+    let text = b"1 start a 1 -\n1 frob\n1 finish";
+    assert_eq!(rt;
+        count(rt.alloc(), text, THREADS),
+        Err(ScriptError::BadLine { line: 2 })
+    );
+    Ok(())
+}
+
+#[test]
+fn lines_are_printed_in_their_canonical_spelling(rt: HostRuntime) -> Result<(), Fail> {
+    let texts: [(&[u8], &[u8]); 17] = [
+        (b"1 get /?", b"1 get /?"),
+        (b"16 part k 0 10", b"16 part k 0 10"),
+        (b"9 info k", b"9 info k"),
+        (b"10 set k 0Aff wcr", b"10 set k 0aff wcr"),
+        (b"1 set k - -", b"1 set k - -"),
+        (b"1 remove k", b"1 remove k"),
+        (b"1 start k 4294967295 cr", b"1 start k 4294967295 cr"),
+        (b"1 add BE", b"1 add be"),
+        (b"1 finish", b"1 finish"),
+        (b"1 abort", b"1 abort"),
+        (b"1 open 255 a*", b"1 open 255 a*"),
+        (b"1 next 0", b"1 next 0"),
+        (b"1 close 7", b"1 close 7"),
+        (b"1 reset", b"1 reset"),
+        (b"0 mount", b"0 mount"),
+        (b"0 cut p:1:half", b"0 cut p:1:half"),
+        (b"0 cut r:20:mix:3\n", b"0 cut r:20:mix:3"),
+    ];
+    for (text, canonical) in texts {
+        let script = parse_script(rt.alloc(), text, SECURE)?;
+        let line = script.lines().first().ok_or("no line")?;
+        let printed = print_line(rt.alloc(), line)?;
+        assert_eq!(rt; printed.as_slice(), canonical);
     }
     Ok(())
 }

@@ -2,6 +2,7 @@ use Rattle.std.proofs.Common.{◌≡◌, ◌+◌, length}
 use Rattle.script_core.specs.Grammar.{lines_of}
 use Rattle.script_core.specs.Parts.{parts_left}
 use Rattle.script_core.specs.Reading.{read_from, read_text}
+use Rattle.script_core.proofs.LaterEnds.{KnowsEnds}
 use Rattle.script_core.proofs.parse.read.Given as goal
 
 -- what is left goes on from the lines so far; the lines so far and those left are all
@@ -9,4 +10,5 @@ abbrev pub invariant-loop-text : goal.invariant-loop-text
 invariant-loop-text l = record {
   same : read_from l.mode (l.number + 1) l.lines.items (parts_left l.text-iterator) ≡ read_text l.mode l.bytes;
   count : l.number + length (parts_left l.text-iterator) ≡ length (lines_of l.bytes);
+  ends : KnowsEnds l.ends l.number (parts_left l.text-iterator);
 }
