@@ -1,5 +1,5 @@
 -- How a history goes on.
-use Rattle.std.proofs.Common.{◌≡◌, ℕ, List, [], ◌∷◌, ◌++◌, refl, sym, subst}
+use Rattle.std.proofs.Common.{List, [], ◌∷◌, ◌++◌, refl, subst}
 use Rattle.kv_model.specs.declared.call.Entry.{Entry}
 use Rattle.kv_model.specs.StoreState.{StoreState}
 use Rattle.kv_model.specs.History.{Rules, Runs, Follows}

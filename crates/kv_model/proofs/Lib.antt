@@ -1,5 +1,6 @@
 pub mod CrcLemmas
 pub mod HistoryLemmas
+pub mod LimitLemmas
 pub mod MapLemmas
 pub mod OrderLemmas
 pub mod SizesLemmas

@@ -1,8 +1,8 @@
 -- More on finite maps: what their lists of entries are.
 use Rattle.std.proofs.Common.{◌≡◌, ℕ, Bool, true, false, not, cond, List, [], ◌∷◌, length, Ordering, None, refl, sym, ◌∙◌, ap, arith}
-use Rattle.std.specs.Ordering.{nat_cmp, eq_by_cmp, is_eq}
+use Rattle.std.specs.Ordering.{eq_by_cmp, is_eq}
 use Rattle.std.specs.Cmp.{IsTotalOrder, nat_cmp_total, on_total, alike_right, eq_by_cmp_equiv}
-use Rattle.std.specs.FinMap.{FinMap, IsAntisymmetric, empty, remove, entries, entries_sorted, find, get, from_sorted, get-entries, get-remove, get-from_sorted, entries-from_sorted, same_map, len-entries, len-empty}
+use Rattle.std.specs.FinMap.{FinMap, IsAntisymmetric, empty, remove, entries, entries_sorted, get, from_sorted, get-entries, get-remove, get-from_sorted, entries-from_sorted, same_map, len-entries, len-empty}
 use Rattle.std.specs.FinMap.Entries.{where_key, is_sorted-where_key, find-where_key}
 use Rattle.std.proofs.lemmas.Cmp.{then_total}
 use Rattle.kv_model.specs.StoreState.{iterator_cmp}

@@ -1,8 +1,7 @@
 -- The key order is total, and only equal keys tie in it.
 use Rattle.std.proofs.Common.{ℕ, List}
-use Rattle.std.specs.Ordering.{nat_cmp}
 use Rattle.std.specs.Cmp.{IsTotalOrder, nat_cmp_total, on_total}
-use Rattle.std.specs.Cmp.Lexicographic.{slice_cmp, nat_list_cmp_total}
+use Rattle.std.specs.Cmp.Lexicographic.{nat_list_cmp_total}
 use Rattle.std.proofs.lemmas.Cmp.{then_total}
 use Rattle.kv_model.specs.Crc.{key_hash}
 use Rattle.kv_model.specs.KeyOrder.{key_order}

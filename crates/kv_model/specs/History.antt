@@ -1,5 +1,5 @@
 -- What a history of a store is: calls and replies that follow one another by the store's own step.
-use Rattle.std.specs.Prelude.{◌≡◌, ◌⊎◌, ℕ, Bool, false, ◌+◌, ◌==◌, IsTrue, List, [], ◌∷◌, ◌++◌, length, count_by, Option, Some, None, MatchOption, Contains}
+use Rattle.std.specs.Prelude.{◌≡◌, ◌⊎◌, ℕ, false, ◌+◌, ◌==◌, IsTrue, List, [], ◌∷◌, ◌++◌, length, count_by, Option, Some, None, MatchOption, Contains}
 use Rattle.std.specs.FinMap as map
 use Rattle.kv_model.specs.declared.error.KvError.TheVariants.{ReadFault, WriteFault, InvalidSize}
 use Rattle.kv_model.specs.declared.call.Call.{Call}
@@ -9,7 +9,7 @@ use Rattle.kv_model.specs.declared.call.Reply.TheVariants.{Done, Refused}
 use Rattle.kv_model.specs.declared.call.Entry.{Entry}
 use Rattle.kv_model.specs.FlaggedMap.{FlaggedMap}
 use Rattle.kv_model.specs.Flags.{remove_flags}
-use Rattle.kv_model.specs.StoreState.{StoreState, OpenSet, Doubt}
+use Rattle.kv_model.specs.StoreState.{StoreState, OpenSet}
 use Rattle.kv_model.specs.Operations.{Operation, operation_of}
 use Rattle.kv_model.specs.Checks.{Check, may_fail_reading, may_fail_writing}
 use Rattle.kv_model.specs.PlainStep.{Constants, Outcome, plain_checks, plain_step}

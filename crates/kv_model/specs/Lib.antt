@@ -7,6 +7,7 @@ pub mod Flags
 pub mod History
 pub mod KeyOrder
 pub mod Keys
+pub mod Limits
 pub mod NextKey
 pub mod Operations
 pub mod PlainStep

@@ -8,7 +8,7 @@ use Rattle.kv_model.specs.declared.call.Reply.{Reply}
 use Rattle.kv_model.specs.declared.call.Reply.TheVariants as reply
 use Rattle.kv_model.specs.Keys.{is_key, is_prefix}
 use Rattle.kv_model.specs.Flags.{is_plain_flags, is_write_once}
-use Rattle.kv_model.specs.FlaggedMap.{Stored, FlaggedMap}
+use Rattle.kv_model.specs.FlaggedMap.{Stored}
 use Rattle.kv_model.specs.Sizes.{record_size}
 use Rattle.kv_model.specs.StoreState.{StoreState, OpenSet, Position}
 use Rattle.kv_model.specs.Operations.{Operation, Get, Part, Info, Set, Remove, RemoveStart, Start, Add, Finish, Abort, OpenIterator, Next, CloseIterator, Reset}
@@ -133,7 +133,7 @@ module _ (constants : Constants) (state : StoreState) (who : ℕ) where
   abbrev with_more : List ℕ → OpenSet → OpenSet
   with_more value set = record set { bytes = set.bytes ++ value }
 
-  abbrev finished : OpenSet → StoreState
+  abbrev pub finished : OpenSet → StoreState
   finished set =
       if set.is_remove
       then record (without_key set.key) { open_set = None }
@@ -145,7 +145,7 @@ module _ (constants : Constants) (state : StoreState) (who : ℕ) where
   abbrev position_of : ℕ → Position
   position_of n = unwrap_or (map.get state.iterators (who, n)) (record { prefix = []; last = None })
 
-  abbrev advanced : ℕ → Option (List ℕ) → Outcome
+  abbrev pub advanced : ℕ → Option (List ℕ) → Outcome
   advanced n None = answers reply.End
   advanced n (Some key) = record { state = placed n (record (position_of n) { last = Some key }); reply = reply.Found key }
 
@@ -168,11 +168,11 @@ module _ (constants : Constants) (state : StoreState) (who : ℕ) where
   plain_effect (CloseIterator n) = becomes (record state { iterators = map.remove state.iterators (who, n) })
 
   -- a refusal leaves the state, but for a finish with bytes missing, which ends the set
-  abbrev after_refusal : Operation → KvError → StoreState
+  abbrev pub after_refusal : Operation → KvError → StoreState
   after_refusal Finish error.InvalidSize = record state { open_set = None }
   after_refusal operation refusal = state
 
-  abbrev refused_or : Operation → Option KvError → Outcome
+  abbrev pub refused_or : Operation → Option KvError → Outcome
   refused_or operation (Some refusal) = record { state = after_refusal operation refusal; reply = reply.Refused refusal }
   refused_or operation None = plain_effect operation
 

@@ -1,13 +1,17 @@
 // Laws of the definitions, and facts that tie them to values worked out by hand. Each is a function with nothing to do:
 // its contract is the law.
-ghost use Rattle.std.specs.Prelude.{◌≡◌, ◌+◌, ◌*◌, ◌%◌, ◌<◌, ◌≤◌, ◌++◌, [], ◌∷◌, ℕ, List, codes};
+ghost use Rattle.std.specs.Prelude.{◌≡◌, ◌+◌, ◌*◌, ◌%◌, ◌<◌, ◌≤◌, ◌^◌, ◌++◌, [], ◌∷◌, ℕ, List, codes};
 ghost use Rattle.std.specs.Cmp.{IsTotalOrder};
+ghost use Rattle.std.specs.FinMap.{empty};
 ghost use Rattle.kv_model.specs.declared.call.Entry.{Entry};
 ghost use Rattle.kv_model.specs.Crc.{crc_of, key_hash};
 ghost use Rattle.kv_model.specs.Sizes.{up, record_size, master_size, room_of};
 ghost use Rattle.kv_model.specs.KeyOrder.{key_order};
-ghost use Rattle.kv_model.specs.StoreState.{StoreState};
-ghost use Rattle.kv_model.specs.History.{Rules, Runs, Follows};
+ghost use Rattle.kv_model.specs.StoreState.{StoreState, fresh_state};
+ghost use Rattle.kv_model.specs.History.{Rules, Runs, Follows, plain_rules};
+ghost use Rattle.kv_model.specs.Limits.{IsPlain};
+ghost use Rattle.kv_model.specs.Operations.{Operation};
+ghost use Rattle.kv_model.specs.PlainStep.{Constants, Outcome, plain_step};
 
 /// The CRC is the complement of the usual CRC-32, whose published values these are, and hashes are its low bits.
 pub fn crc_values()
@@ -45,4 +49,13 @@ pub fn key_order_is_total()
 pub fn history_goes_on()
     ensures { (rules : Rules) (old mid new : StoreState) (entries : List Entry) (entry : Entry)
         → Runs rules old entries mid → Follows rules mid entry new → Runs rules old (entries ++ entry ∷ []) new }
+{}
+
+/// A plain store begins within the limits of a state, and every call, fault and mount keeps them.
+pub fn limits_are_kept()
+    ensures fresh { (next_vector spent : ℕ) → next_vector < 2 ^ 64 → IsPlain (fresh_state empty empty next_vector spent) }
+    ensures step { (constants : Constants) (state : StoreState) (who : ℕ) (operation : Operation)
+        → IsPlain state → IsPlain (plain_step constants state who operation).state }
+    ensures history { (constants : Constants) (old new : StoreState) (entry : Entry)
+        → IsPlain old → Follows (plain_rules constants) old entry new → IsPlain new }
 {}

@@ -20,7 +20,10 @@ pub use examples::{
 };
 pub use flags::Flags;
 pub use key::{Key, is_key, is_prefix};
-pub use laws::{crc_values, history_goes_on, key_order_is_total, padding_is_least, record_sizes};
+pub use laws::{
+    crc_values, history_goes_on, key_order_is_total, limits_are_kept, padding_is_least,
+    record_sizes,
+};
 pub use pattern::Pattern;
 
 #[cfg(test)]

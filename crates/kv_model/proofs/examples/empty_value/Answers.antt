@@ -1,6 +1,6 @@
 use Rattle.std.specs.Ordering.{nat_cmp}
 use Rattle.std.specs.Cmp.Lexicographic.{slice_cmp, nat_list_cmp_total}
-use Rattle.std.specs.FinMap.{get-insert, get-empty, get-remove}
+use Rattle.std.specs.FinMap.{get-insert, get-empty}
 use Rattle.kv_model.specs.FlaggedMap.{Stored}
 use Rattle.kv_model.specs.Keys.{is_key, is_prefix, is_key_byte}
 use Rattle.kv_model.specs.Sizes.{up}
