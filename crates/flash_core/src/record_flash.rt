@@ -37,6 +37,13 @@ impl RecordFlash {
     {
         &self.image
     }
+
+    /// Gives the bytes of the device away. It takes no memory.
+    pub fn into_image(self) -> Vec<u8>
+        ensures { (⟦<RecordFlash as Flash>⟧.state self).image ≡ Some result.items }
+    {
+        self.image
+    }
 }
 
 // Writes the bytes over what stands at the place.
