@@ -1,12 +1,12 @@
 -- What a store stands for once a record was written at its end.
-use Rattle.std.proofs.Common.{◌≡◌, ℕ, ◌+◌, ◌-◌, ◌≤◌, Bool, true, false, cond, List, length, Ordering, Option, Some, None, IfSome, refl, sym, ◌∙◌, ap, subst, inl, inr, arith}
+use Rattle.std.proofs.Common.{◌≡◌, ℕ, ◌+◌, ◌-◌, ◌≤◌, Bool, true, false, cond, List, [], length, Ordering, Option, Some, None, IfSome, refl, sym, ◌∙◌, ap, subst, inl, inr, arith}
 use Rattle.std.specs.declared.cmp.Ordering.TheVariants.{Less, Equal, Greater}
 use mathlib.Core.Bool.{false≢true}
 use Rattle.std.specs.Ordering.{nat_cmp, is_eq}
 use Rattle.std.specs.Cmp.{eq_by_cmp_equiv}
 use Rattle.std.specs.Cmp.Lexicographic.{slice_cmp, nat_list_cmp_total}
 use Rattle.std.specs.FinMap as map
-use Rattle.std.specs.FinMap.{get-insert, slice_cmp-IsAntisymmetric, nat_cmp-IsAntisymmetric}
+use Rattle.std.specs.FinMap.{get-insert, get-remove, slice_cmp-IsAntisymmetric, nat_cmp-IsAntisymmetric}
 use Rattle.std.specs.Prelude.{IsTrue}
 use Rattle.flash_core.specs.declared.geometry.Geometry.{Geometry}
 use Rattle.flash_core.specs.Images.{part, IsErased, Torn}
@@ -18,14 +18,17 @@ use Rattle.flash_core.proofs.GeometryLaws.{prog_positive}
 use Rattle.flash_core.proofs.Units.{IsMultipleOf-add}
 use Rattle.kv_model.specs.Keys.{is_key}
 use Rattle.kv_model.specs.FlaggedMap.{Stored, FlaggedMap}
+use Rattle.kv_model.specs.Flags.{remove_flags}
+use Rattle.kv_model.specs.History.{Write}
 use Rattle.kv_model.specs.Sizes.{up, record_size, master_size}
 use Rattle.kv_model.specs.StoreState.{StoreState}
 use Rattle.record_core.specs.Header.{IsHeader}
 use Rattle.record_core.specs.Record.{record_bytes}
 use Rattle.record_core.proofs.RecordLemmas.{length-record_bytes}
-use Rattle.record_core.proofs.LogLemmas.{IsRecordAt-Torn, extent-positive}
+use Rattle.record_core.specs.Log.{IsRecordAt}
+use Rattle.record_core.proofs.LogLemmas.{IsRecordAt-Torn}
 use Rattle.kv_cli.specs.Writing.{image_of, IsTold, HasWritten}
-use Rattle.kv_cli.specs.LogStore.{Places, place_of, IsReady, IsKept, IsLinked, StandsFor, record_of, with_record}
+use Rattle.kv_cli.specs.LogStore.{Places, place_of, IsReady, IsKept, IsLinked, StandsFor, record_of, with_record, without_record}
 use Rattle.kv_cli.proofs.WritingLemmas.{whole_up}
 
 equal_is : (r : Ordering) → is_eq r ≡ true → r ≡ Equal
@@ -48,75 +51,109 @@ IsLinked-Torn prog positive old new end n torn key (Some place) (Some stored) is
   inside = omega (arith, is.inside);
 }
 
-linked_after : (prog : ℕ) → 1 ≤ prog → (old new : List ℕ) (end n : ℕ) → Torn end n old new → (key other : List ℕ) (stored : Stored) → IsKept prog new (end + n) end key stored
+-- each key is linked as before, but the one of the record
+linked_after : (prog : ℕ) → 1 ≤ prog → (old new : List ℕ) (end n : ℕ) → Torn end n old new → (key other : List ℕ) (entry : Option ℕ) (gives : Option Stored) → IsLinked prog new (end + n) key entry gives
     → (same : Bool) → is_eq (slice_cmp nat_cmp key other) ≡ same → (place : Option ℕ) (there : Option Stored) → IsLinked prog old end other place there
-    → IsLinked prog new (end + n) other (cond same (Some end) place) (cond same (Some stored) there)
-linked_after prog positive old new end n torn key other stored kept true same place there is =
-    subst (λ (k : List ℕ). IsKept prog new (end + n) end k stored) (same_key key other same) kept
-linked_after prog positive old new end n torn key other stored kept false same place there is = IsLinked-Torn prog positive old new end n torn other place there is
+    → IsLinked prog new (end + n) other (cond same entry place) (cond same gives there)
+linked_after prog positive old new end n torn key other entry gives linked true same place there is =
+    subst (λ (k : List ℕ). IsLinked prog new (end + n) k entry gives) (same_key key other same) linked
+linked_after prog positive old new end n torn key other entry gives linked false same place there is = IsLinked-Torn prog positive old new end n torn other place there is
 
 -- what the map has at a key once another was set
-get_after : (m : FlaggedMap) (key other : List ℕ) (stored : Stored) → map.get (map.insert m key stored) other ≡ cond (is_eq (slice_cmp nat_cmp key other)) (Some stored) (map.get m other)
+pub get_after : (m : FlaggedMap) (key other : List ℕ) (stored : Stored) → map.get (map.insert m key stored) other ≡ cond (is_eq (slice_cmp nat_cmp key other)) (Some stored) (map.get m other)
 get_after m key other stored =
     get-insert nat_list_cmp_total m key stored other ∙ ap (λ (b : Bool). cond b (Some stored) (map.get m other)) ((eq_by_cmp_equiv nat_list_cmp_total).symm other key)
 
-module _ (old new : FlashState) (end : ℕ) (places later : Places) (key : List ℕ) (stored : Stored) (valid_key : IsTrue (is_key key)) (valid_header : IsHeader stored.flags (length key) (length stored.bytes))
-    (written : HasWritten old new end (record_bytes old.geometry.prog stored.flags key stored.bytes)) (device : IsTold old)
-    (updated : (other : List ℕ) → place_of later other ≡ cond (is_eq (slice_cmp nat_cmp key other)) (Some end) (place_of places other)) where
+-- what the map has at a key once another was taken out
+pub get_without : (m : FlaggedMap) (key other : List ℕ) → map.get (map.remove m key) other ≡ cond (is_eq (slice_cmp nat_cmp key other)) None (map.get m other)
+get_without m key other =
+    get-remove nat_list_cmp_total m key other ∙ ap (λ (b : Bool). cond b None (map.get m other)) ((eq_by_cmp_equiv nat_list_cmp_total).symm other key)
+
+place_inside : (same : Bool) (area : ℕ) (entry place : Option ℕ) → IfSome entry (λ p. p + 24 ≤ area) → IfSome place (λ p. p + 24 ≤ area) → IfSome (cond same entry place) (λ p. p + 24 ≤ area)
+place_inside true area entry place fits is = fits
+place_inside false area entry place fits is = is
+
+-- a place more or less
+pub ready_with : {s : FlashState} {end : ℕ} {places : Places} {work : List ℕ} (later : Places) (key : List ℕ) (entry : Option ℕ) → IfSome entry (λ p. p + 24 ≤ area_size s.geometry)
+    → ((other : List ℕ) → place_of later other ≡ cond (is_eq (slice_cmp nat_cmp key other)) entry (place_of places other)) → IsReady s end places work → IsReady s end later work
+ready_with {s} {end} {places} {work} later key entry fits updated ready = record {
+  device = ready.device;
+  begin = ready.begin;
+  end_aligned = ready.end_aligned;
+  end_inside = ready.end_inside;
+  erased = ready.erased;
+  work_size = ready.work_size;
+  places_inside = λ other. subst (λ (place : Option ℕ). IfSome place (λ p. p + 24 ≤ area_size s.geometry)) (sym (updated other)) (place_inside _ (area_size s.geometry) entry (place_of places other) fits (ready.places_inside other));
+}
+
+-- a record was written at the end
+module _ (old new : FlashState) (end : ℕ) (places : Places) (r : Write) (device : IsTold old) (written : HasWritten old new end (record_bytes old.geometry.prog r.flags r.key r.value)) where
   abbrev prog : ℕ
   prog = old.geometry.prog
 
   abbrev n : ℕ
-  n = record_size prog (length key) (length stored.bytes)
+  n = record_size prog (length r.key) (length r.value)
 
   positive : 1 ≤ prog
   positive = let some = prog_positive old.geometry device.valid in omega arith
 
-  long : length (record_bytes prog stored.flags key stored.bytes) ≡ n
-  long = length-record_bytes prog positive stored.flags key stored.bytes
+  long : length (record_bytes prog r.flags r.key r.value) ≡ n
+  long = length-record_bytes prog positive r.flags r.key r.value
 
   torn : Torn end n (image_of old) (image_of new)
   torn = subst (λ (m : ℕ). Torn end m (image_of old) (image_of new)) long written.rest
 
-  kept : IsKept prog (image_of new) (end + n) end key stored
-  kept = record {
-    stands = record {
-      valid_key = valid_key;
-      valid_header = valid_header;
-      spelling = ap (part (image_of new) end) (sym long) ∙ written.bytes_are;
-    };
-    inside = omega arith;
+  pub record_stands : IsTrue (is_key r.key) → IsHeader r.flags (length r.key) (length r.value) → IsRecordAt prog (image_of new) end r
+  record_stands valid_key valid_header = record {
+    valid_key = valid_key;
+    valid_header = valid_header;
+    spelling = ap (part (image_of new) end) (sym long) ∙ written.bytes_are;
   }
 
-  linked : (state : StoreState) → StandsFor old end places state → (other : List ℕ) → IsLinked prog (image_of new) (end + n) other (place_of later other) (map.get (map.insert state.primary key stored) other)
-  linked state stands other =
-      subst (λ (place : Option ℕ). IsLinked prog (image_of new) (end + n) other place (map.get (map.insert state.primary key stored) other)) (sym (updated other))
-      (subst (λ (there : Option Stored). IsLinked prog (image_of new) (end + n) other (cond (is_eq (slice_cmp nat_cmp key other)) (Some end) (place_of places other)) there) (sym (get_after state.primary key other stored))
-      (linked_after prog positive (image_of old) (image_of new) end n torn key other stored kept _ refl (place_of places other) (map.get state.primary other) (stands.linked other)))
-
-  pub stands_after : (state : StoreState) → StandsFor old end places state → StandsFor new (end + n) later (with_record prog state key stored)
-  stands_after state stands = record {
-    linked = λ other. subst (λ (g : Geometry). IsLinked g.prog (image_of new) (end + n) other (place_of later other) (map.get (map.insert state.primary key stored) other)) (sym written.kept.geometry) (linked state stands other);
-    spent = omega (arith, stands.spent, ap (λ (g : Geometry). master_size g.prog) written.kept.geometry);
-    running = stands.running;
-    no_set = stands.no_set;
-  }
-
-  place_inside : (same : Bool) (area : ℕ) (place : Option ℕ) → end + n ≤ area → IfSome place (λ p. p + 24 ≤ area) → IfSome (cond same (Some end) place) (λ p. p + 24 ≤ area)
-  place_inside true area place fits is = omega (arith, extent-positive prog positive (record_of key stored))
-  place_inside false area place fits is = is
-
-  pub ready_after : (work other_work : List ℕ) → length other_work ≡ length work → end + n ≤ area_size old.geometry → IsReady old end places work → IsReady new (end + n) later other_work
+  pub ready_after : (work other_work : List ℕ) → length other_work ≡ length work → end + n ≤ area_size old.geometry → IsReady old end places work → IsReady new (end + n) places other_work
   ready_after work other_work same_length fits ready = record {
     device = written.device;
     begin = omega (arith, ready.begin, ap (λ (g : Geometry). master_size g.prog) written.kept.geometry);
     end_aligned = subst (λ (g : Geometry). IsMultipleOf g.prog (end + n)) (sym written.kept.geometry)
-        (IsMultipleOf-add prog end n ready.end_aligned (IsMultipleOf-add prog (up prog 24) (up prog (length key + length stored.bytes)) (whole_up prog 24) (whole_up prog (length key + length stored.bytes))));
+        (IsMultipleOf-add prog end n ready.end_aligned (IsMultipleOf-add prog (up prog 24) (up prog (length r.key + length r.value)) (whole_up prog 24) (whole_up prog (length r.key + length r.value))));
     end_inside = omega (arith, fits, ap area_size written.kept.geometry);
     erased = subst (λ (g : Geometry). IsErased (image_of new) (end + n) (area_size g - (end + n))) (sym written.kept.geometry)
         (IsErased-Torn end n (image_of old) (image_of new) (end + n) (area_size old.geometry - (end + n)) torn (inr (omega arith))
         (IsErased-within (image_of old) end (area_size old.geometry - end) (end + n) (area_size old.geometry - (end + n)) ready.erased (omega arith) (omega (arith, fits))));
-    places_inside = λ other. subst (λ (g : Geometry). IfSome (place_of later other) (λ p. p + 24 ≤ area_size g)) (sym written.kept.geometry)
-        (subst (λ (place : Option ℕ). IfSome place (λ p. p + 24 ≤ area_size old.geometry)) (sym (updated other)) (place_inside _ (area_size old.geometry) (place_of places other) fits (ready.places_inside other)));
+    places_inside = λ other. subst (λ (g : Geometry). IfSome (place_of places other) (λ p. p + 24 ≤ area_size g)) (sym written.kept.geometry) (ready.places_inside other);
     work_size = same_length ∙ ready.work_size;
   }
+
+  module _ (later : Places) (entry : Option ℕ) (gives : Option Stored) (linked_now : IsLinked prog (image_of new) (end + n) r.key entry gives)
+      (updated : (other : List ℕ) → place_of later other ≡ cond (is_eq (slice_cmp nat_cmp r.key other)) entry (place_of places other))
+      (state : StoreState) (primary : FlaggedMap) (changed : (other : List ℕ) → map.get primary other ≡ cond (is_eq (slice_cmp nat_cmp r.key other)) gives (map.get state.primary other)) where
+    linked : StandsFor old end places state → (other : List ℕ) → IsLinked prog (image_of new) (end + n) other (place_of later other) (map.get primary other)
+    linked stands other =
+        subst (λ (place : Option ℕ). IsLinked prog (image_of new) (end + n) other place (map.get primary other)) (sym (updated other))
+        (subst (λ (there : Option Stored). IsLinked prog (image_of new) (end + n) other (cond (is_eq (slice_cmp nat_cmp r.key other)) entry (place_of places other)) there) (sym (changed other))
+        (linked_after prog positive (image_of old) (image_of new) end n torn r.key other entry gives linked_now _ refl (place_of places other) (map.get state.primary other) (stands.linked other)))
+
+    pub stands_after : StandsFor old end places state → StandsFor new (end + n) later (record state { spent = state.spent + n; primary = primary })
+    stands_after stands = record {
+      linked = λ other. subst (λ (g : Geometry). IsLinked g.prog (image_of new) (end + n) other (place_of later other) (map.get primary other)) (sym written.kept.geometry) (linked stands other);
+      spent = omega (arith, stands.spent, ap (λ (g : Geometry). master_size g.prog) written.kept.geometry);
+      running = stands.running;
+      no_set = stands.no_set;
+    }
+
+-- the record of a set, and of a remove
+module _ (old new : FlashState) (end : ℕ) (places later : Places) (key : List ℕ) (valid_key : IsTrue (is_key key)) (device : IsTold old) where
+  pub set_after : (stored : Stored) → IsHeader stored.flags (length key) (length stored.bytes) → HasWritten old new end (record_bytes old.geometry.prog stored.flags key stored.bytes)
+      → ((other : List ℕ) → place_of later other ≡ cond (is_eq (slice_cmp nat_cmp key other)) (Some end) (place_of places other))
+      → (state : StoreState) → StandsFor old end places state → StandsFor new (end + record_size old.geometry.prog (length key) (length stored.bytes)) later (with_record old.geometry.prog state key stored)
+  set_after stored valid_header written updated state stands =
+      let r = record_of key stored in
+      let kept : IsKept old.geometry.prog (image_of new) (end + record_size old.geometry.prog (length key) (length stored.bytes)) end key stored =
+      record { stands = record_stands old new end places r device written valid_key valid_header; inside = omega arith } in
+      stands_after old new end places r device written later (Some end) (Some stored) kept updated state (map.insert state.primary key stored) (λ other. get_after state.primary key other stored) stands
+
+  pub removed_after : HasWritten old new end (record_bytes old.geometry.prog remove_flags key [])
+      → ((other : List ℕ) → place_of later other ≡ cond (is_eq (slice_cmp nat_cmp key other)) None (place_of places other))
+      → (state : StoreState) → StandsFor old end places state → StandsFor new (end + record_size old.geometry.prog (length key) 0) later (without_record old.geometry.prog state key)
+  removed_after written updated state stands =
+      stands_after old new end places (record { flags = remove_flags; key = key; value = [] }) device written later None None tt updated state (map.remove state.primary key) (λ other. get_without state.primary key other) stands

@@ -1,12 +1,13 @@
 -- What a read leaves of a store, and what a place says of the map.
-use Rattle.std.proofs.Common.{◌≡◌, ℕ, ◌+◌, ◌-◌, ◌<◌, ◌≤◌, List, [], length, Option, Some, None, IfSome, Result, Ok, Err, IfOk, OnOk, IsErr, Bool, true, false, rules, MatchResult, Vec, Global, unwrap_or, refl, sym, ◌∙◌, ap, subst, inl, inr, arith}
+use Rattle.std.proofs.Common.{◌≡◌, ℕ, ◌+◌, ◌-◌, ◌<◌, ◌≤◌, List, [], length, take, drop, Option, Some, None, IfSome, Result, Ok, Err, IfOk, IsOkAnd, OnOk, IsErr, Bool, true, false, rules, MatchResult, Vec, Global, unwrap_or, refl, sym, ◌∙◌, ap, subst, inl, inr, arith}
 use mathlib.Core.Bool.{false≢true}
 use Rattle.std.specs.FinMap as map
 use Rattle.kv_model.specs.declared.bytes.NoMemory.{NoMemory}
+use Rattle.kv_model.specs.declared.call.Info.{Info}
 use Rattle.kv_model.specs.declared.call.Reply.{Reply}
-use Rattle.kv_model.specs.declared.call.Reply.TheVariants.{Value, Done}
+use Rattle.kv_model.specs.declared.call.Reply.TheVariants.{Value, Facts, Done, Refused}
 use Rattle.kv_model.specs.declared.error.KvError.{KvError}
-use Rattle.kv_model.specs.declared.error.KvError.TheVariants.{Memory}
+use Rattle.kv_model.specs.declared.error.KvError.TheVariants.{Memory, InvalidSize}
 use Rattle.flash_core.specs.declared.geometry.Geometry.{Geometry}
 use Rattle.flash_core.specs.Calls.{OnlyReads}
 use Rattle.flash_core.specs.Images.{IsErased}
@@ -14,9 +15,10 @@ use Rattle.flash_core.specs.Sizes.{IsValid, area_size, size_of}
 use Rattle.flash_core.specs.State.{FlashState}
 use Rattle.flash_core.specs.Up.{IsMultipleOf}
 use Rattle.kv_model.specs.FlaggedMap.{Stored}
+use Rattle.kv_model.specs.Flags.{remove_flags}
 use Rattle.kv_model.specs.StoreState.{StoreState}
-use Rattle.std.specs.Prelude.{IsTrue, nat_lt, if◌then◌else◌}
-use Rattle.std.proofs.lemmas.Bool.{cases_eq}
+use Rattle.std.specs.Prelude.{IsTrue, is_none, nat_lt, if◌then◌else◌}
+use Rattle.std.proofs.lemmas.Bool.{cases_eq, cases_lt}
 use Rattle.std.proofs.lemmas.Bool.Decides.{nat_tests}
 use Rattle.kv_model.specs.Keys.{is_key, is_prefix}
 use Rattle.record_core.specs.Header.{IsHeader}
@@ -62,6 +64,13 @@ pub unlinked : (prog : ℕ) (image : List ℕ) (end : ℕ) (key : List ℕ) (the
 unlinked prog image end key None is = refl
 unlinked prog image end key (Some stored) is = absurd is
 
+-- a key has a place exactly where it is in the map
+pub linked_alike : (prog : ℕ) (image : List ℕ) (end : ℕ) (key : List ℕ) (place : Option ℕ) (there : Option Stored) → IsLinked prog image end key place there → is_none there ≡ is_none place
+linked_alike prog image end key None None is = refl
+linked_alike prog image end key (Some place) (Some stored) is = refl
+linked_alike prog image end key None (Some stored) is = absurd is
+linked_alike prog image end key (Some place) None is = absurd is
+
 -- what a place says of the map: the key is in it, and its record stands there
 pub record Found (prog : ℕ) (image : List ℕ) (end place : ℕ) (key : List ℕ) (there : Option Stored) : Type 0 where
   pub stored : Stored
@@ -75,16 +84,41 @@ linked_at prog image end place key (Some stored) is = record { stored = stored; 
 pub linked_by : (prog : ℕ) (image : List ℕ) (end : ℕ) (key : List ℕ) (place other : Option ℕ) (there : Option Stored) → place ≡ other → IsLinked prog image end key place there → IsLinked prog image end key other there
 linked_by prog image end key place other there same is = subst (λ (p : Option ℕ). IsLinked prog image end key p there) same is
 
+when_none : (r : Result Reply NoMemory) (P : Reply → Type 0) → IsErr r → IfOk r P
+when_none (Ok x) P failed = absurd (false≢true failed)
+when_none (Err e) P failed = tt
+
 -- what a get answers that read the value, or found no memory
 pub get_answer : (read : Result (Vec ℕ Global) KvError) (result : Result Reply NoMemory) (P : Reply → Type 0) (bytes : List ℕ)
     → MatchResult read (λ value. value.items ≡ bytes) (λ error. error ≡ Memory) → IfOk read (λ value. result ≡ Ok (Value value.items)) → (read ≡ Err Memory → IsErr result)
     → P (Value bytes) → IfOk result P
 get_answer (Ok value) result P bytes is ok memory holds = subst (λ (r : Result Reply NoMemory). IfOk r P) (sym (ok ∙ ap (λ (l : List ℕ). Ok (Value l)) is)) holds
-get_answer (Err error) result P bytes is ok memory holds = when_err result (memory (ap Err is))
-  where
-    when_err : (r : Result Reply NoMemory) → IsErr r → IfOk r P
-    when_err (Ok x) failed = absurd (false≢true failed)
-    when_err (Err e) failed = tt
+get_answer (Err error) result P bytes is ok memory holds = when_none result P (memory (ap Err is))
+
+is_then : (result : Result Reply NoMemory) (P : Reply → Type 0) (x : Reply) → IfOk result (λ reply. reply ≡ x) → P x → IfOk result P
+is_then (Ok reply) P x is holds = subst P (sym is) holds
+is_then (Err error) P x is holds = tt
+
+-- what a part answers that read the value, or found no memory
+pub part_answer : (read : Result (Vec ℕ Global) KvError) (result : Result Reply NoMemory) (P : Reply → Type 0) (bytes : List ℕ) (offset count : ℕ)
+    → MatchResult read (λ value. value.items ≡ bytes) (λ error. error ≡ Memory)
+    → IfOk read (λ value. length value.items < offset → result ≡ Ok (Refused InvalidSize))
+    → IfOk read (λ value. offset ≤ length value.items → IfOk result (λ reply. reply ≡ Value (take count (drop offset value.items))))
+    → (read ≡ Err Memory → IsErr result)
+    → (nat_lt (length bytes) offset ≡ true → P (Refused InvalidSize)) → (nat_lt (length bytes) offset ≡ false → P (Value (take count (drop offset bytes)))) → IfOk result P
+part_answer (Ok value) result P bytes offset count is large part memory refuses gives =
+    let same : length value.items ≡ length bytes = ap length is in
+    elim (cases_lt (length value.items) offset) [
+      | inl less ↦ subst (λ (r : Result Reply NoMemory). IfOk r P) (sym (large less)) (refuses (grind (arith, nat_tests)))
+      | inr fits ↦ is_then result P _ (part fits) (subst (λ (l : List ℕ). P (Value (take count (drop offset l)))) (sym is) (gives (grind (arith, nat_tests))))
+    ]
+part_answer (Err error) result P bytes offset count is large part memory refuses gives = when_none result P (memory (ap Err is))
+
+-- what an info answers that read the header
+pub info_answer : (read : Result Info KvError) (result : Reply) (flags size : ℕ) → IsOkAnd read (λ info. (info.flags.bits ≡ flags) × (info.size ≡ size))
+    → IfOk read (λ info. result ≡ Facts info.size info.flags) → result ≡ Facts size (record { bits = flags })
+info_answer (Ok info) result flags size is answers = answers ∙ (λ i. Facts (is.1 i) (record { bits = is.0 i }))
+info_answer (Err error) result flags size is answers = absurd is
 
 -- the sizes of a key
 pub key_sizes : (bytes : List ℕ) → IsTrue (is_key bytes) → (1 ≤ length bytes) × (length bytes ≤ 128)
@@ -103,6 +137,16 @@ plain_header flags key_size value_size plain least most value_most = record {
 
 abbrev pub passed : Result Unit KvError
 passed = Ok tt
+
+-- a header of a remove
+pub remove_header : (key_size : ℕ) → 1 ≤ key_size → key_size ≤ 128 → IsHeader remove_flags key_size 0
+remove_header key_size least most = record {
+  kind = inr (inr refl);
+  key_least = least;
+  key_most = most;
+  value_most = omega arith;
+  remove_is_empty = λ removed. refl;
+}
 
 -- a check that passed found nothing
 pub found_nothing : (protected full : Bool) (first second : KvError) → passed ≡ (if protected then Err first else if full then Err second else Ok tt) → (protected ≡ false) × (full ≡ false)

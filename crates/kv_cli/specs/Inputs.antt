@@ -28,10 +28,13 @@ pub record IsReadable (limit : ℕ) (name : List ℕ) (contents : HostContents) 
 abbrev pub plain_replay : ScriptMode
 plain_replay = record { threads = false; secure = false }
 
--- what a line may ask for so far: gets, and sets without flags
+-- what a line may ask for so far: a value, a part of it or what is known of it, a set, and a remove
 abbrev pub IsEarlyAct : Act → Type 0
 IsEarlyAct (Do (call.Get key)) = Unit {0}
-IsEarlyAct (Do (call.Set key value flags)) = flags.bits ≡ 0
+IsEarlyAct (Do (call.Part key offset count)) = Unit {0}
+IsEarlyAct (Do (call.Info key)) = Unit {0}
+IsEarlyAct (Do (call.Set key value flags)) = Unit {0}
+IsEarlyAct (Do (call.Remove key)) = Unit {0}
 IsEarlyAct act = ⊥
 
 -- and by one client

@@ -80,7 +80,14 @@ with_record prog state key stored = record state {
   primary = map.insert state.primary key stored;
 }
 
--- whether a value of this size may be set under a key that the store takes: why not, if not
+-- the state once a record was written that takes this key out
+abbrev pub without_record : ℕ → StoreState → List ℕ → StoreState
+without_record prog state key = record state {
+  spent = state.spent + record_size prog (length key) 0;
+  primary = map.remove state.primary key;
+}
+
+-- whether a record of a value of this size may be written under a key that the store takes: why not, if not
 abbrev pub RoomCheck : Constants → StoreState → List ℕ → ℕ → Result Unit KvError → Type 0
 RoomCheck constants state key size result =
     let need = state.spent + record_size constants.prog (length key) size in

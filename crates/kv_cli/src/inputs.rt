@@ -11,7 +11,7 @@ ghost use Rattle.kv_cli.specs.Outcomes.{AreRead, Halts, StopsAtScript, StopsAtIm
 use crate::stop::Stop;
 use crate::words::names_of;
 use kv_host::{Host, HostFault};
-use kv_model::{Call, Flags};
+use kv_model::Call;
 use script_core::{Act, Line, Script, ScriptError, ScriptMode, parse_script};
 use std::alloc::Global;
 use std::rc::RcStr;
@@ -58,20 +58,21 @@ fn read<H: Host>(
     }
 }
 
-// So far client 1 alone calls, and gets, or sets without flags.
+// So far client 1 alone calls, and neither starts a set nor iterates, resets or mounts.
 fn is_early(line: &Line) -> bool
     ensures { IsTrue result ↔ IsEarly line.now }
 {
     line.who == 1
-        && match &line.act {
+        && matches!(
+            &line.act,
             Act::Do {
-                call: Call::Get { .. },
-            } => true,
-            Act::Do {
-                call: Call::Set { flags, .. },
-            } => flags.bits == 0,
-            _ => false,
-        }
+                call: Call::Get { .. }
+                    | Call::Part { .. }
+                    | Call::Info { .. }
+                    | Call::Set { .. }
+                    | Call::Remove { .. }
+            }
+        )
 }
 
 fn are_early(lines: &[Line]) -> bool

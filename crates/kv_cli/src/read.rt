@@ -1,5 +1,6 @@
 // Reads records back from the device.
 ghost use Rattle.std.specs.Prelude.{◌≡◌, ◌+◌, ◌≤◌, ◌<◌, ◌++◌, ◌^◌, length, take, Ok, IsOk, IfOk, IfErr, IsOkAnd, MatchResult};
+ghost use Rattle.kv_model.specs.declared.call.Info.{Info};
 ghost use Rattle.kv_model.specs.declared.error.KvError.TheVariants.{Memory};
 ghost use Rattle.kv_model.specs.Crc.{crc_of};
 ghost use Rattle.kv_model.specs.History.{Write};
@@ -13,7 +14,7 @@ ghost use Rattle.kv_cli.specs.Writing.{image_of, IsTold};
 ghost use Rattle.kv_cli.specs.Reading.{head_of};
 
 use flash_core::Flash;
-use kv_model::{Key, KvError};
+use kv_model::{Flags, Info, Key, KvError};
 use record_core::{Header, crc, padded_size, read_header};
 use std::alloc::Global;
 
@@ -78,6 +79,23 @@ pub fn read_flags<F: Flash>(flash: &mut F, place: u32) -> Result<u32, KvError>
 {
     let head = read_head(flash, place)?;
     Ok(head.header.flags)
+}
+
+/// The flags and the size of the value of the record at `place`.
+pub fn read_info<F: Flash>(flash: &mut F, place: u32) -> Result<Info, KvError>
+    requires told { IsTold (F.state flash.old) }
+    requires inside { place + 24 ≤ area_size (F.state flash.old).geometry }
+    ensures kept { OnlyReads (F.state flash.old) (F.state flash.new) }
+    ensures info { (r : Write) → IsRecordAt (F.state flash.old).geometry.prog (image_of (F.state flash.old)) place r
+        → IsOkAnd result (λ info. (info.flags.bits ≡ r.flags) × (info.size ≡ length r.value)) }
+{
+    let head = read_head(flash, place)?;
+    Ok(Info {
+        flags: Flags {
+            bits: head.header.flags,
+        },
+        size: head.header.value_size,
+    })
 }
 
 /// As many zeros.

@@ -1,30 +1,35 @@
 // The store behind a replay: a log of records in the first area, and the place of the last record of each key.
-ghost use Rattle.std.specs.Prelude.{◌≡◌, ◌+◌, ◌-◌, ◌<◌, ◌≤◌, ℕ, length, Ok, Err, IfOk, IsErr, OnOk, Option, None, IsTrue};
+ghost use Rattle.std.specs.Prelude.{◌≡◌, ◌+◌, ◌-◌, ◌<◌, ◌≤◌, ℕ, length, take, drop, Ok, Err, IfOk, IsOk, IsErr, OnOk, Option, None, IsTrue};
 ghost use Rattle.std.specs.Option.{option_map_or};
 ghost use Rattle.std.specs.FinMap.{empty, get};
 ghost use Rattle.flash_core.specs.Calls.{OnlyReads};
 ghost use Rattle.flash_core.specs.Images.{IsErased};
 ghost use Rattle.flash_core.specs.Sizes.{area_size};
 ghost use Rattle.kv_model.specs.FlaggedMap.{Stored};
+ghost use Rattle.kv_model.specs.Flags.{remove_flags};
 ghost use Rattle.kv_model.specs.Keys.{is_key};
 ghost use Rattle.kv_model.specs.Sizes.{master_size, record_size};
 ghost use Rattle.kv_model.specs.StoreState.{StoreState, fresh_state};
 ghost use Rattle.kv_model.specs.PlainStep.{Constants};
-ghost use Rattle.kv_model.specs.Operations.{Operation, Get, Set};
+ghost use Rattle.kv_model.specs.Operations.{Operation, Get, Part, Info as InfoOf, Set, Remove};
 ghost use Rattle.record_core.specs.Header.{IsHeader};
+ghost use Rattle.record_core.specs.Record.{record_bytes};
 ghost use Rattle.script_core.specs.declared.line.Act.{Act};
 ghost use Rattle.kv_cli.specs.Inputs.{IsEarlyAct};
-ghost use Rattle.kv_cli.specs.Writing.{image_of, IsTold};
-ghost use Rattle.kv_cli.specs.LogStore.{place_of, flags_in, with_record, IsReady, StandsFor, IsOver, HasStepped, CallHasStepped, RoomCheck};
+ghost use Rattle.kv_cli.specs.Writing.{image_of, HasWritten, IsTold};
+ghost use Rattle.kv_cli.specs.LogStore.{place_of, flags_in, with_record, without_record, IsReady, StandsFor, IsOver, HasStepped, CallHasStepped, RoomCheck};
 
-use crate::read::{read_flags, read_value, zeros};
+use crate::read::{read_flags, read_info, read_value, zeros};
 use flash_core::Flash;
-use kv_model::{Bytes, Call, Flags, Key, KvError, NoMemory, Reply};
+use kv_model::{Bytes, Call, Flags, Info, Key, KvError, NoMemory, Reply};
 use record_core::{padded_size, size_of_record, write_record};
 use std::alloc::Global;
 use std::collections::BTreeMap;
 
 const MAX_VALUE: usize = 65_572;
+
+// The flags of a record that takes its key out.
+const REMOVED: u32 = 0x8000_0000;
 
 // At least the largest program unit.
 const WORK_SIZE: u32 = 4_096;
@@ -94,9 +99,14 @@ impl<F: Flash> LogStore<F> {
     {
         match call {
             Call::Get { key } => Ok(self.get(alloc, key.as_slice())?),
+            Call::Part { key, offset, count } => {
+                Ok(self.part(alloc, key.as_slice(), *offset, *count)?)
+            }
+            Call::Info { key } => Ok(self.info(key.as_slice())),
             Call::Set { key, value, flags } => {
                 Ok(self.set(key.as_slice(), value.as_slice(), *flags)?)
             }
+            Call::Remove { key } => Ok(self.remove(key.as_slice())),
             _ => unreachable!(),
         }
     }
@@ -116,6 +126,51 @@ impl<F: Flash> LogStore<F> {
         match self.place_of(&key) {
             None => Ok(refused(KvError::NotFound)),
             Some(place) => answer(read_value(alloc, &mut self.flash, place, &key)),
+        }
+    }
+
+    /// At most `count` bytes of a key's value, from `offset` on.
+    pub fn part(
+        &mut self,
+        alloc: Global,
+        bytes: &[u8],
+        offset: u32,
+        count: u32,
+    ) -> Result<Reply, NoMemory>
+        requires { IsReady (F.state self.old.flash) self.old.end self.old.places.entries self.old.work.items }
+        ensures ready { IsReady (F.state self.new.flash) self.new.end self.new.places.entries self.new.work.items }
+        ensures geometry { (F.state self.new.flash).geometry ≡ (F.state self.old.flash).geometry }
+        ensures step { (constants : Constants) (state : StoreState) (who : ℕ) → IsOver (F.state self.old.flash).geometry constants
+            → StandsFor (F.state self.old.flash) self.old.end self.old.places.entries state
+            → IfOk result (λ reply. HasStepped constants state who (Part bytes.now offset count) reply (F.state self.new.flash) self.new.end self.new.places.entries) }
+    {
+        let Ok(key) = Key::new(bytes) else {
+            return Ok(refused(KvError::InvalidKey));
+        };
+        match self.place_of(&key) {
+            None => Ok(refused(KvError::NotFound)),
+            Some(place) => {
+                let read = read_value(alloc, &mut self.flash, place, &key);
+                answer_part(alloc, read, offset, count)
+            }
+        }
+    }
+
+    /// The size and the flags of a key's value.
+    pub fn info(&mut self, bytes: &[u8]) -> Reply
+        requires { IsReady (F.state self.old.flash) self.old.end self.old.places.entries self.old.work.items }
+        ensures ready { IsReady (F.state self.new.flash) self.new.end self.new.places.entries self.new.work.items }
+        ensures geometry { (F.state self.new.flash).geometry ≡ (F.state self.old.flash).geometry }
+        ensures step { (constants : Constants) (state : StoreState) (who : ℕ) → IsOver (F.state self.old.flash).geometry constants
+            → StandsFor (F.state self.old.flash) self.old.end self.old.places.entries state
+            → HasStepped constants state who (InfoOf bytes.now) result (F.state self.new.flash) self.new.end self.new.places.entries }
+    {
+        let Ok(key) = Key::new(bytes) else {
+            return refused(KvError::InvalidKey);
+        };
+        match self.place_of(&key) {
+            None => refused(KvError::NotFound),
+            Some(place) => answer_info(read_info(&mut self.flash, place)),
         }
     }
 
@@ -169,6 +224,49 @@ impl<F: Flash> LogStore<F> {
         Ok(())
     }
 
+    /// Takes a key out.
+    pub fn remove(&mut self, bytes: &[u8]) -> Reply
+        requires { IsReady (F.state self.old.flash) self.old.end self.old.places.entries self.old.work.items }
+        ensures ready { IsReady (F.state self.new.flash) self.new.end self.new.places.entries self.new.work.items }
+        ensures geometry { (F.state self.new.flash).geometry ≡ (F.state self.old.flash).geometry }
+        ensures step { (constants : Constants) (state : StoreState) (who : ℕ) → IsOver (F.state self.old.flash).geometry constants
+            → StandsFor (F.state self.old.flash) self.old.end self.old.places.entries state
+            → HasStepped constants state who (Remove bytes.now) result (F.state self.new.flash) self.new.end self.new.places.entries }
+    {
+        let Ok(key) = Key::new(bytes) else {
+            return refused(KvError::InvalidKey);
+        };
+        if self.place_of(&key).is_none() {
+            return refused(KvError::NotFound);
+        }
+        match self.check_room(&key, 0) {
+            Ok(()) => self.take_out(&key),
+            Err(error) => refused(error),
+        }
+    }
+
+    // Writes a record at the end.
+    fn write(&mut self, key: &Key, value: &[u8], flags: u32) -> Result<(), KvError>
+        requires ready { IsReady (F.state self.old.flash) self.old.end self.old.places.entries self.old.work.items }
+        requires header { IsHeader flags (length key.now) (length value.now) }
+        requires fits { self.old.end + record_size (F.state self.old.flash).geometry.prog (length key.now) (length value.now) ≤ area_size (F.state self.old.flash).geometry }
+        ensures ready { IsReady (F.state self.new.flash) self.new.end self.new.places.entries self.new.work.items }
+        ensures done { IsOk result }
+        ensures end { self.new.end ≡ self.old.end + record_size (F.state self.old.flash).geometry.prog (length key.now) (length value.now) }
+        ensures places { self.new.places.entries ≡ self.old.places.entries }
+        ensures written { HasWritten (F.state self.old.flash) (F.state self.new.flash) self.old.end
+            (record_bytes (F.state self.old.flash).geometry.prog flags key.now value.now) }
+    {
+        let size = size_of_record(
+            self.flash.geometry().prog,
+            key.as_slice().len() as u32,
+            value.len() as u32,
+        );
+        write_record(&mut self.flash, self.end, key, value, flags, &mut self.work)?;
+        self.end += size;
+        Ok(())
+    }
+
     // Writes the record of a key that may be set.
     fn append(&mut self, key: Key, value: &[u8], flags: u32) -> Result<Reply, NoMemory>
         requires ready { IsReady (F.state self.old.flash) self.old.end self.old.places.entries self.old.work.items }
@@ -182,26 +280,25 @@ impl<F: Flash> LogStore<F> {
             → OnOk result (StandsFor (F.state self.new.flash) self.new.end self.new.places.entries
             (with_record (F.state self.old.flash).geometry.prog state key (record { flags = flags; bytes = value.now }))) }
     {
-        let size = size_of_record(
-            self.flash.geometry().prog,
-            key.as_slice().len() as u32,
-            value.len() as u32,
-        );
         self.places.insert(copy_of(&key)?, self.end)?;
-        if write_record(
-            &mut self.flash,
-            self.end,
-            &key,
-            value,
-            flags,
-            &mut self.work,
-        )
-        .is_err()
-        {
-            return Ok(refused(KvError::WriteFault));
-        }
-        self.end += size;
-        Ok(Reply::Done)
+        Ok(answer_write(self.write(&key, value, flags)))
+    }
+
+    // Writes the record that takes out a key that may be removed.
+    fn take_out(&mut self, key: &Key) -> Reply
+        requires ready { IsReady (F.state self.old.flash) self.old.end self.old.places.entries self.old.work.items }
+        requires header { IsHeader remove_flags (length key.now) 0 }
+        requires fits { self.old.end + record_size (F.state self.old.flash).geometry.prog (length key.now) 0 ≤ area_size (F.state self.old.flash).geometry }
+        requires valid { IsTrue (is_key key.now) }
+        ensures ready { IsReady (F.state self.new.flash) self.new.end self.new.places.entries self.new.work.items }
+        ensures geometry { (F.state self.new.flash).geometry ≡ (F.state self.old.flash).geometry }
+        ensures done { result ≡ Reply.Done }
+        ensures stands { (state : StoreState) → StandsFor (F.state self.old.flash) self.old.end self.old.places.entries state
+            → StandsFor (F.state self.new.flash) self.new.end self.new.places.entries (without_record (F.state self.old.flash).geometry.prog state key.now) }
+    {
+        let written = self.write(key, &[], REMOVED);
+        self.places.remove(key);
+        answer_write(written)
     }
 
     // The flags under a key, or none.
@@ -237,5 +334,58 @@ fn answer(read: Result<Vec<u8>, KvError>) -> Result<Reply, NoMemory>
         }),
         Err(KvError::Memory) => Err(NoMemory),
         Err(error) => Ok(refused(error)),
+    }
+}
+
+// The reply of a part whose value was read like this.
+fn answer_part(
+    alloc: Global,
+    read: Result<Vec<u8>, KvError>,
+    offset: u32,
+    count: u32,
+) -> Result<Reply, NoMemory>
+    ensures large { IfOk read (λ value. length value.items < offset → result ≡ Ok (Reply.Refused KvError.InvalidSize)) }
+    ensures part { IfOk read (λ value. offset ≤ length value.items → IfOk result (λ reply. reply ≡ Reply.Value (take count (drop offset value.items)))) }
+    ensures memory { read ≡ Err KvError.Memory → IsErr result }
+{
+    match read {
+        Ok(value) => part_of(alloc, &value, offset, count),
+        Err(KvError::Memory) => Err(NoMemory),
+        Err(error) => Ok(refused(error)),
+    }
+}
+
+// At most `count` bytes of a value, from `offset` on.
+fn part_of(alloc: Global, value: &[u8], offset: u32, count: u32) -> Result<Reply, NoMemory>
+    ensures large { length value.now < offset → result ≡ Ok (Reply.Refused KvError.InvalidSize) }
+    ensures part { offset ≤ length value.now → IfOk result (λ reply. reply ≡ Reply.Value (take count (drop offset value.now))) }
+{
+    if offset as usize > value.len() {
+        return Ok(refused(KvError::InvalidSize));
+    }
+    let rest = &value[offset as usize..];
+    let part = &rest[..rest.len().min(count as usize)];
+    Ok(Reply::Value {
+        bytes: Bytes::new(alloc, part)?,
+    })
+}
+
+// The reply of an info that read this.
+fn answer_info(read: Result<Info, KvError>) -> Reply
+    ensures { IfOk read (λ info. result ≡ Reply.Facts info.size info.flags) }
+{
+    match read {
+        Ok(Info { flags, size }) => Reply::Facts { size, flags },
+        Err(error) => refused(error),
+    }
+}
+
+// The reply of a call whose record was written like this.
+fn answer_write(written: Result<(), KvError>) -> Reply
+    ensures { OnOk written (result ≡ Reply.Done) }
+{
+    match written {
+        Ok(()) => Reply::Done,
+        Err(error) => refused(error),
     }
 }

@@ -97,9 +97,9 @@ fn scripts_that_are_none_are_refused(rt: HostRuntime) -> Result<(), Fail> {
         Some(&too_many),
         Some(b"2 get a"),
         Some(b"0 mount"),
-        Some(b"1 set a 00 w"),
+        Some(b"1 start a 4 -"),
         Some(b"1 put a 00 -"),
-        Some(b"1 info a"),
+        Some(b"1 iter 0 -"),
         Some(b"1 get a "),
         Some(b"1  get a"),
         Some(b"1 get"),
@@ -232,12 +232,23 @@ fn replies_are_printed_a_line_each(rt: HostRuntime) -> Result<(), Fail> {
     let full = set_of_a_size(alloc, 65_471)?;
     let too_full = set_of_a_size(alloc, 65_472)?;
     let at_its_limit = vec![in alloc; b'#'; 2_097_152]?;
-    let cases: [(&[u8], &[u8]); 11] = [
+    let cases: [(&[u8], &[u8]); 13] = [
         (b"1 set a 00ff -\n1 get a", b"1 1 ok\n1 2 ok 00ff\n"),
         (b"", b""),
         (&at_its_limit, b""),
         (b"1 get a\n", b"1 1 error 1 not-found\n"),
-        (b"1 set k - -\n1 get k", b"1 1 ok\n1 2 ok -\n"),
+        (
+            b"1 set k - -\n1 get k\n1 info k\n1 part k 0 4\n1 part k 1 1",
+            b"1 1 ok\n1 2 ok -\n1 3 ok 0 -\n1 4 ok -\n1 5 error 4 invalid-size\n",
+        ),
+        (
+            b"1 set k 01 w\n1 set k 02 -\n1 remove k\n1 get k\n1 set j 01 c\n1 get j",
+            b"1 1 ok\n1 2 error 5 write-protected\n1 3 error 5 write-protected\n1 4 ok 01\n1 5 error 3 invalid-flags\n1 6 error 1 not-found\n",
+        ),
+        (
+            b"1 set k 0102 -\n1 remove k\n1 get k\n1 remove k\n1 info k",
+            b"1 1 ok\n1 2 ok\n1 3 error 1 not-found\n1 4 error 1 not-found\n1 5 error 1 not-found\n",
+        ),
         (&longest_key, b"1 1 ok\n"),
         (&longer_key, b"1 1 error 2 invalid-key\n"),
         (b"1 set TDBS 00 -", b"1 1 error 2 invalid-key\n"),
