@@ -1,5 +1,5 @@
 -- What a store stands for once a record was written at its end.
-use Rattle.std.proofs.Common.{◌≡◌, ℕ, ◌+◌, ◌-◌, ◌≤◌, Bool, true, false, cond, List, [], length, Ordering, Option, Some, None, IfSome, refl, sym, ◌∙◌, ap, subst, inl, inr, arith}
+use Rattle.std.proofs.Common.{◌≡◌, ℕ, ◌+◌, ◌-◌, ◌*◌, ◌<◌, ◌≤◌, Bool, true, false, cond, List, [], ◌∷◌, ◌++◌, length, Ordering, Option, Some, None, IfSome, refl, sym, ◌∙◌, ap, subst, inl, inr, arith}
 use Rattle.std.specs.declared.cmp.Ordering.TheVariants.{Less, Equal, Greater}
 use mathlib.Core.Bool.{false≢true}
 use Rattle.std.specs.Ordering.{nat_cmp, is_eq}
@@ -7,14 +7,15 @@ use Rattle.std.specs.Cmp.{eq_by_cmp_equiv}
 use Rattle.std.specs.Cmp.Lexicographic.{slice_cmp, nat_list_cmp_total}
 use Rattle.std.specs.FinMap as map
 use Rattle.std.specs.FinMap.{get-insert, get-remove, slice_cmp-IsAntisymmetric, nat_cmp-IsAntisymmetric}
-use Rattle.std.specs.Prelude.{IsTrue}
+use Rattle.std.specs.Prelude.{IsTrue, if◌then◌else◌}
+use Rattle.std.proofs.lemmas.Bool.{ne_eqb}
 use Rattle.flash_core.specs.declared.geometry.Geometry.{Geometry}
 use Rattle.flash_core.specs.Images.{part, IsErased, Torn}
 use Rattle.flash_core.specs.Sizes.{area_size}
 use Rattle.flash_core.specs.State.{FlashState}
 use Rattle.flash_core.specs.Up.{IsMultipleOf}
-use Rattle.flash_core.proofs.ImageLaws.{IsErased-Torn, IsErased-within}
-use Rattle.flash_core.proofs.GeometryLaws.{prog_positive}
+use Rattle.flash_core.proofs.ImageLaws.{IsErased-Torn, IsErased-within, part-Torn}
+use Rattle.flash_core.proofs.GeometryLaws.{prog_positive, size-areas}
 use Rattle.flash_core.proofs.Units.{IsMultipleOf-add}
 use Rattle.kv_model.specs.Keys.{is_key}
 use Rattle.kv_model.specs.FlaggedMap.{Stored, FlaggedMap}
@@ -25,10 +26,11 @@ use Rattle.kv_model.specs.StoreState.{StoreState}
 use Rattle.record_core.specs.Header.{IsHeader}
 use Rattle.record_core.specs.Record.{record_bytes}
 use Rattle.record_core.proofs.RecordLemmas.{length-record_bytes}
-use Rattle.record_core.specs.Log.{IsRecordAt}
-use Rattle.record_core.proofs.LogLemmas.{IsRecordAt-Torn}
+use Rattle.record_core.specs.Record.{IsMaster}
+use Rattle.record_core.specs.Log.{IsRecordAt, applied, extent}
+use Rattle.record_core.proofs.LogLemmas.{IsRecordAt-Torn, AreRecords-append, AreRecords-forward, AreRecords-Torn, map_of-append}
 use Rattle.kv_cli.specs.Writing.{image_of, IsTold, HasWritten}
-use Rattle.kv_cli.specs.LogStore.{Places, place_of, IsReady, IsKept, IsLinked, StandsFor, record_of, with_record, without_record}
+use Rattle.kv_cli.specs.LogStore.{Places, place_of, IsReady, IsKept, IsLinked, IsLogOf, StandsFor, record_of, with_record, without_record}
 use Rattle.kv_cli.proofs.WritingLemmas.{whole_up}
 
 equal_is : (r : Ordering) → is_eq r ≡ true → r ≡ Equal
@@ -68,6 +70,27 @@ get_after m key other stored =
 pub get_without : (m : FlaggedMap) (key other : List ℕ) → map.get (map.remove m key) other ≡ cond (is_eq (slice_cmp nat_cmp key other)) None (map.get m other)
 get_without m key other =
     get-remove nat_list_cmp_total m key other ∙ ap (λ (b : Bool). cond b None (map.get m other)) ((eq_by_cmp_equiv nat_list_cmp_total).symm other key)
+
+-- what the map is once a record was applied
+applied_plain : (m : FlaggedMap) (key : List ℕ) (stored : Stored) → stored.flags < 2 → map.insert m key stored ≡ applied (record_of key stored) m
+applied_plain m key stored plain =
+    sym (ap (λ (removes : Bool). if removes then map.remove m key else map.insert m key stored) (ne_eqb stored.flags remove_flags (λ same. omega arith)))
+
+-- a log goes on by a record that was written at its end
+log_after : (g : Geometry) → 1 ≤ g.prog → (old new : List ℕ) (end : ℕ) (r : Write) (m primary : FlaggedMap) → 2 * area_size g ≤ length old → end + extent g.prog r ≤ area_size g
+    → Torn end (extent g.prog r) old new → IsRecordAt g.prog new end r → primary ≡ applied r m → IsLogOf g old end m → IsLogOf g new (end + extent g.prog r) primary
+log_after g positive old new end r m primary sized fits torn stands is log =
+    let begin = AreRecords-forward g.prog positive old (master_size g.prog) end log.records log.each in
+    let master : part new 0 (master_size g.prog) ≡ part old 0 (master_size g.prog) =
+    part-Torn end (extent g.prog r) old new 0 (master_size g.prog) torn (inl (omega (arith, begin))) (omega (arith, begin, fits, sized)) in
+    record {
+      master = subst (IsMaster g.prog 1) (sym master) log.master;
+      records = log.records ++ r ∷ [];
+      each = AreRecords-append g.prog new (master_size g.prog) end (end + extent g.prog r) log.records (r ∷ [])
+          (AreRecords-Torn g.prog positive end (extent g.prog r) old new (master_size g.prog) end log.records torn (inl (omega arith)) log.each) (stands, refl);
+      map_is = is ∙ ap (applied r) log.map_is ∙ sym (map_of-append log.records r);
+      spare = IsErased-Torn end (extent g.prog r) old new (area_size g) (area_size g) torn (inr (omega (arith, fits))) log.spare;
+    }
 
 place_inside : (same : Bool) (area : ℕ) (entry place : Option ℕ) → IfSome entry (λ p. p + 24 ≤ area) → IfSome place (λ p. p + 24 ≤ area) → IfSome (cond same entry place) (λ p. p + 24 ≤ area)
 place_inside true area entry place fits is = fits
@@ -126,7 +149,8 @@ module _ (old new : FlashState) (end : ℕ) (places : Places) (r : Write) (devic
 
   module _ (later : Places) (entry : Option ℕ) (gives : Option Stored) (linked_now : IsLinked prog (image_of new) (end + n) r.key entry gives)
       (updated : (other : List ℕ) → place_of later other ≡ cond (is_eq (slice_cmp nat_cmp r.key other)) entry (place_of places other))
-      (state : StoreState) (primary : FlaggedMap) (changed : (other : List ℕ) → map.get primary other ≡ cond (is_eq (slice_cmp nat_cmp r.key other)) gives (map.get state.primary other)) where
+      (valid_key : IsTrue (is_key r.key)) (valid_header : IsHeader r.flags (length r.key) (length r.value)) (fits : end + n ≤ area_size old.geometry)
+      (state : StoreState) (primary : FlaggedMap) (is : primary ≡ applied r state.primary) (changed : (other : List ℕ) → map.get primary other ≡ cond (is_eq (slice_cmp nat_cmp r.key other)) gives (map.get state.primary other)) where
     linked : StandsFor old end places state → (other : List ℕ) → IsLinked prog (image_of new) (end + n) other (place_of later other) (map.get primary other)
     linked stands other =
         subst (λ (place : Option ℕ). IsLinked prog (image_of new) (end + n) other place (map.get primary other)) (sym (updated other))
@@ -136,6 +160,8 @@ module _ (old new : FlashState) (end : ℕ) (places : Places) (r : Write) (devic
     pub stands_after : StandsFor old end places state → StandsFor new (end + n) later (record state { spent = state.spent + n; primary = primary })
     stands_after stands = record {
       linked = λ other. subst (λ (g : Geometry). IsLinked g.prog (image_of new) (end + n) other (place_of later other) (map.get primary other)) (sym written.kept.geometry) (linked stands other);
+      log = subst (λ (g : Geometry). IsLogOf g (image_of new) (end + n) primary) (sym written.kept.geometry)
+          (log_after old.geometry positive (image_of old) (image_of new) end r state.primary primary (omega (arith, device.sized, size-areas old.geometry)) fits torn (record_stands valid_key valid_header) is stands.log);
       spent = omega (arith, stands.spent, ap (λ (g : Geometry). master_size g.prog) written.kept.geometry);
       running = stands.running;
       no_set = stands.no_set;
@@ -143,17 +169,17 @@ module _ (old new : FlashState) (end : ℕ) (places : Places) (r : Write) (devic
 
 -- the record of a set, and of a remove
 module _ (old new : FlashState) (end : ℕ) (places later : Places) (key : List ℕ) (valid_key : IsTrue (is_key key)) (device : IsTold old) where
-  pub set_after : (stored : Stored) → IsHeader stored.flags (length key) (length stored.bytes) → HasWritten old new end (record_bytes old.geometry.prog stored.flags key stored.bytes)
+  pub set_after : (stored : Stored) → stored.flags < 2 → end + record_size old.geometry.prog (length key) (length stored.bytes) ≤ area_size old.geometry → IsHeader stored.flags (length key) (length stored.bytes) → HasWritten old new end (record_bytes old.geometry.prog stored.flags key stored.bytes)
       → ((other : List ℕ) → place_of later other ≡ cond (is_eq (slice_cmp nat_cmp key other)) (Some end) (place_of places other))
       → (state : StoreState) → StandsFor old end places state → StandsFor new (end + record_size old.geometry.prog (length key) (length stored.bytes)) later (with_record old.geometry.prog state key stored)
-  set_after stored valid_header written updated state stands =
+  set_after stored plain fits valid_header written updated state stands =
       let r = record_of key stored in
       let kept : IsKept old.geometry.prog (image_of new) (end + record_size old.geometry.prog (length key) (length stored.bytes)) end key stored =
       record { stands = record_stands old new end places r device written valid_key valid_header; inside = omega arith } in
-      stands_after old new end places r device written later (Some end) (Some stored) kept updated state (map.insert state.primary key stored) (λ other. get_after state.primary key other stored) stands
+      stands_after old new end places r device written later (Some end) (Some stored) kept updated valid_key valid_header fits state (map.insert state.primary key stored) (applied_plain state.primary key stored plain) (λ other. get_after state.primary key other stored) stands
 
-  pub removed_after : HasWritten old new end (record_bytes old.geometry.prog remove_flags key [])
+  pub removed_after : end + record_size old.geometry.prog (length key) 0 ≤ area_size old.geometry → IsHeader remove_flags (length key) 0 → HasWritten old new end (record_bytes old.geometry.prog remove_flags key [])
       → ((other : List ℕ) → place_of later other ≡ cond (is_eq (slice_cmp nat_cmp key other)) None (place_of places other))
       → (state : StoreState) → StandsFor old end places state → StandsFor new (end + record_size old.geometry.prog (length key) 0) later (without_record old.geometry.prog state key)
-  removed_after written updated state stands =
-      stands_after old new end places (record { flags = remove_flags; key = key; value = [] }) device written later None None tt updated state (map.remove state.primary key) (λ other. get_without state.primary key other) stands
+  removed_after fits valid_header written updated state stands =
+      stands_after old new end places (record { flags = remove_flags; key = key; value = [] }) device written later None None tt updated valid_key valid_header fits state (map.remove state.primary key) refl (λ other. get_without state.primary key other) stands

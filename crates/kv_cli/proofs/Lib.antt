@@ -1,5 +1,6 @@
 mod AppendLemmas
 pub mod Endings
+mod FreshLemmas
 mod ReadingLemmas
 mod RunLemmas
 mod StepLemmas

@@ -1,10 +1,19 @@
 -- How a history goes on by one entry.
-use Rattle.std.proofs.Common.{◌≡◌, ℕ, List, [], ◌∷◌, ◌++◌, map, All, Option, Some, None, MatchOption, refl, sym, ◌∙◌, ap, subst, inl, append_assoc}
+use Rattle.std.proofs.Common.{◌≡◌, ℕ, List, [], ◌∷◌, ◌++◌, map, All, ◌+◌, ◌*◌, ◌≤◌, length, unwrap_or, arith, Option, Some, None, MatchOption, refl, sym, ◌∙◌, ap, subst, inl, append_assoc}
 use Rattle.std.specs.List.{flat_map}
 use Rattle.std.proofs.lemmas.List.{map-append, append-nil}
 use Rattle.std.proofs.lemmas.List.Concat.{flat_map-append}
 use Rattle.std.proofs.lemmas.List.Elements.{All-push, All-nil}
+use Rattle.flash_core.specs.declared.geometry.Geometry.{Geometry}
+use Rattle.flash_core.specs.Sizes.{area_size, size_of}
 use Rattle.flash_core.specs.State.{FlashState}
+use Rattle.flash_core.proofs.GeometryLaws.{prog_positive}
+use Rattle.kv_model.specs.Sizes.{master_size}
+use Rattle.record_core.specs.Log.{AreAllRecords}
+use Rattle.record_core.specs.Mounts.{Mounts as ImageMounts}
+use Rattle.record_core.proofs.LogLemmas.{all_before_erased, extent-positive}
+use Rattle.record_core.proofs.MountLemmas.{no_master_erased}
+use Rattle.kv_cli.specs.Writing.{image_of}
 use Rattle.kv_model.specs.declared.call.Call.{Call}
 use Rattle.kv_model.specs.declared.call.Entry.{Entry}
 use Rattle.kv_model.specs.declared.call.Reply.{Reply}
@@ -17,8 +26,8 @@ use Rattle.kv_model.proofs.HistoryLemmas.{runs_more}
 use Rattle.script_core.specs.declared.line.Line.{Line}
 use Rattle.script_core.specs.declared.line.Act.TheVariants.{Do}
 use Rattle.journal_core.specs.JournalState.{next_entry}
-use Rattle.kv_cli.specs.LogStore.{Places, StandsFor, HasStepped}
-use Rattle.kv_cli.specs.Replays.{run_constants, IsReplayOf, first_state, called, asked, asked_by, IsFaultless}
+use Rattle.kv_cli.specs.LogStore.{Places, IsReady, StandsFor, HasStepped}
+use Rattle.kv_cli.specs.Replays.{run_constants, run_geometry, IsReplayOf, first_state, called, asked, asked_by, IsFaultless}
 use Rattle.kv_cli.specs.Runs.{HasRun, HasGoneOn}
 
 -- numbered entries, and one more behind them
@@ -85,11 +94,44 @@ run_none entries s end places none stands = subst (λ (l : List Entry). HasRun [
   stands = stands;
 })
 
+-- a store's image mounts to the map of its state
+pub store_mounts : {s : FlashState} {end : ℕ} {places : Places} {work : List ℕ} {state : StoreState} → IsReady s end places work → StandsFor s end places state
+    → ImageMounts s.geometry (image_of s) state.primary
+store_mounts {s} {end} {places} {work} {state} ready stands =
+    let g = s.geometry in
+    let image = image_of s in
+    let some = prog_positive g ready.device.valid in
+    let positive : 1 ≤ g.prog = omega arith in
+    let log = stands.log in
+    let first : 0 * area_size g + master_size g.prog ≡ master_size g.prog = omega arith in
+    let limit : 0 * area_size g + area_size g ≡ area_size g = omega arith in
+    let all = all_before_erased g.prog positive image (master_size g.prog) (area_size g) end log.records log.each ready.end_inside ready.erased in
+    let active = subst (λ (p : ℕ). AreAllRecords g.prog image p (0 * area_size g + area_size g) end log.records) (sym first)
+    (subst (λ (l : ℕ). AreAllRecords g.prog image (master_size g.prog) l end log.records) (sym limit) all) in (
+      record { first = Some 1; second = None; records = log.records; end = end },
+      record {
+        first_master = log.master;
+        second_master = λ version is. no_master_erased g.prog positive image (area_size g) version
+            (log.spare (area_size g) (omega arith) (omega (arith, ready.begin, ready.end_inside, extent-positive g.prog positive (record { flags = 0; key = []; value = [] })))) is;
+        active = active;
+      },
+      log.map_is,
+    )
+
 -- all lines were run
-pub run_all : (lines : List Line) (entries : List Entry) (s : FlashState) (end : ℕ) (places : Places) → HasRun lines entries s end places → IsReplayOf lines entries
-run_all lines entries s end places run = record {
-  last = run.last;
-  legal = record { numbered = run.numbered; runs = run.runs };
-  in_order = run.in_order;
-  faultless = run.faultless;
-}
+pub run_all : (lines : List Line) (entries : List Entry) (s : FlashState) (end : ℕ) (places : Places) (work image : List ℕ) → s.geometry ≡ run_geometry → s.image ≡ Some image
+    → IsReady s end places work → HasRun lines entries s end places → IsReplayOf lines entries image
+run_all lines entries s end places work image over told ready run =
+    let is : image_of s ≡ image = ap (λ (o : Option (List ℕ)). unwrap_or o []) told in
+    record {
+      last = run.last;
+      legal = record { numbered = run.numbered; runs = run.runs };
+      in_order = run.in_order;
+      faultless = run.faultless;
+      sized = ap length (sym is) ∙ ready.device.sized ∙ ap size_of over;
+      mounts = (
+        run.last.primary,
+        subst (λ (g : Geometry). ImageMounts g image run.last.primary) over (subst (λ (l : List ℕ). ImageMounts s.geometry l run.last.primary) is (store_mounts ready run.stands)),
+        refl,
+      );
+    }

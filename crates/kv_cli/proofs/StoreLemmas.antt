@@ -24,7 +24,7 @@ use Rattle.kv_model.specs.Keys.{is_key, is_prefix}
 use Rattle.record_core.specs.Header.{IsHeader}
 use Rattle.kv_model.specs.Sizes.{master_size}
 use Rattle.kv_cli.specs.Writing.{image_of, IsTold}
-use Rattle.kv_cli.specs.LogStore.{Places, place_of, IsReady, IsKept, IsLinked, StandsFor}
+use Rattle.kv_cli.specs.LogStore.{Places, place_of, IsReady, IsKept, IsLinked, IsLogOf, StandsFor}
 
 module _ {old new : FlashState} (reads : OnlyReads old new) where
   pub same_image : image_of new ≡ image_of old
@@ -54,6 +54,7 @@ module _ {old new : FlashState} (reads : OnlyReads old new) where
   StandsFor-read {end} {places} {state} stands = record {
     linked = λ key. subst (λ (g : Geometry). IsLinked g.prog (image_of new) end key (place_of places key) (map.get state.primary key)) (sym reads.geometry)
         (subst (λ (image : List ℕ). IsLinked old.geometry.prog image end key (place_of places key) (map.get state.primary key)) (sym same_image) (stands.linked key));
+    log = subst (λ (g : Geometry). IsLogOf g (image_of new) end state.primary) (sym reads.geometry) (subst (λ (image : List ℕ). IsLogOf old.geometry image end state.primary) (sym same_image) stands.log);
     spent = stands.spent ∙ ap (λ (g : Geometry). master_size g.prog + state.spent) (sym reads.geometry);
     running = stands.running;
     no_set = stands.no_set;

@@ -6,11 +6,11 @@ use Rattle.std.specs.Map.{lookup}
 use Rattle.std.specs.FinMap as map
 use Rattle.std.specs.Option.{option_map_or}
 use Rattle.flash_core.specs.declared.geometry.Geometry.{Geometry}
-use Rattle.flash_core.specs.Images.{IsErased}
+use Rattle.flash_core.specs.Images.{part, IsErased}
 use Rattle.flash_core.specs.Sizes.{area_size}
 use Rattle.flash_core.specs.State.{FlashState}
 use Rattle.flash_core.specs.Up.{IsMultipleOf}
-use Rattle.kv_model.specs.FlaggedMap.{Stored}
+use Rattle.kv_model.specs.FlaggedMap.{Stored, FlaggedMap}
 use Rattle.kv_model.specs.Sizes.{master_size, record_size, room_of}
 use Rattle.kv_model.specs.StoreState.{StoreState}
 use Rattle.kv_model.specs.PlainStep.{Constants, plain_step}
@@ -21,7 +21,8 @@ use Rattle.kv_model.specs.declared.error.KvError.{KvError}
 use Rattle.kv_model.specs.declared.error.KvError.TheVariants.{WriteProtected, MediaFull}
 use Rattle.kv_model.specs.Flags.{is_write_once}
 use Rattle.kv_model.specs.History.{Write}
-use Rattle.record_core.specs.Log.{IsRecordAt, extent}
+use Rattle.record_core.specs.Record.{IsMaster}
+use Rattle.record_core.specs.Log.{IsRecordAt, AreRecords, extent, map_of}
 use Rattle.kv_cli.specs.Writing.{image_of, IsTold}
 
 -- a place for each key that has a record
@@ -57,9 +58,19 @@ IsLinked prog image end key (Some place) (Some stored) = IsKept prog image end p
 IsLinked prog image end key None (Some stored) = ⊥
 IsLinked prog image end key (Some place) None = ⊥
 
+-- Area 0 begins with a master record of version 1, records stand behind it up to the end, and the last of them for each
+-- key decides what the map has there; area 1 is erased.
+pub record IsLogOf (g : Geometry) (image : List ℕ) (end : ℕ) (map : FlaggedMap) : Type 0 where
+  pub master : IsMaster g.prog 1 (part image 0 (master_size g.prog))
+  pub records : List Write
+  pub each : AreRecords g.prog image (master_size g.prog) end records
+  pub map_is : map ≡ map_of records
+  pub spare : IsErased image (area_size g) (area_size g)
+
 -- The records in the image stand for the map of the state, which is running and has no set.
 pub record StandsFor (s : FlashState) (end : ℕ) (places : Places) (state : StoreState) : Type 0 where
   pub linked : (key : List ℕ) → IsLinked s.geometry.prog (image_of s) end key (place_of places key) (map.get state.primary key)
+  pub log : IsLogOf s.geometry (image_of s) end state.primary
   pub spent : end ≡ master_size s.geometry.prog + state.spent
   pub running : state.doubt ≡ None
   pub no_set : state.open_set ≡ None

@@ -1,7 +1,9 @@
 -- What a replay of a script is: a legal history from the empty store, of the calls of its lines in order.
-use Rattle.std.specs.Prelude.{◌≡◌, ℕ, List, [], ◌∷◌, map, All}
+use Rattle.std.specs.Prelude.{◌≡◌, ℕ, List, [], ◌∷◌, length, map, All}
 use Rattle.std.specs.List.{flat_map}
 use Rattle.std.specs.FinMap.{empty}
+use Rattle.flash_core.specs.declared.geometry.Geometry.{Geometry}
+use Rattle.kv_model.specs.FlaggedMap.{FlaggedMap}
 use Rattle.kv_model.specs.declared.call.Call.{Call}
 use Rattle.kv_model.specs.declared.call.Entry.{Entry}
 use Rattle.kv_model.specs.declared.call.Reply.{Reply}
@@ -10,9 +12,14 @@ use Rattle.kv_model.specs.declared.error.KvError.TheVariants as error
 use Rattle.kv_model.specs.StoreState.{StoreState, fresh_state}
 use Rattle.kv_model.specs.PlainStep.{Constants}
 use Rattle.kv_model.specs.History.{IsLegal, plain_rules}
+use Rattle.record_core.specs.Mounts.{Mounts}
 use Rattle.script_core.specs.declared.line.Act.{Act}
 use Rattle.script_core.specs.declared.line.Act.TheVariants.{Do, Cut}
 use Rattle.script_core.specs.declared.line.Line.{Line}
+use Rattle.kv_cli.specs.Images.{image_size}
+
+abbrev pub run_geometry : Geometry
+run_geometry = record { prog = 8; erase = 4096; units_per_area = 16 }
 
 -- the geometry 8:4096:16 and all 32 bits of a CRC as the hash
 abbrev pub run_constants : Constants
@@ -43,9 +50,11 @@ IsFaultless (Refused (error.Corrupt stored computed)) = ⊥
 IsFaultless (Refused error.Memory) = ⊥
 IsFaultless reply = Unit {0}
 
--- each call is that of a line, in order, and follows from those before it
-pub record IsReplayOf (lines : List Line) (entries : List Entry) : Type 0 where
+-- Each call is that of a line, in order, and follows from those before it; the image mounts to the map that they leave.
+pub record IsReplayOf (lines : List Line) (entries : List Entry) (image : List ℕ) : Type 0 where
   pub last : StoreState
   pub legal : IsLegal (plain_rules run_constants) first_state entries last
   pub in_order : map called entries ≡ flat_map asked lines
   pub faultless : All (λ (entry : Entry). IsFaultless entry.reply) entries
+  pub sized : length image ≡ image_size
+  pub mounts : (map : FlaggedMap) × Mounts run_geometry image map × (map ≡ last.primary)

@@ -40,7 +40,7 @@ fn run_line<F: Flash>(
     requires early { IsEarly line.now }
     requires numbers { length journal.old.entries < 8192 }
     ensures ready { IsReady (F.state store.new.flash) store.new.end store.new.places.entries store.new.work.items }
-    ensures over { IsOver (F.state store.new.flash).geometry run_constants }
+    ensures geometry { (F.state store.new.flash).geometry ≡ (F.state store.old.flash).geometry }
     ensures gone_on { (state : StoreState) → StandsFor (F.state store.old.flash) store.old.end store.old.places.entries state
         → IfOk result (λ _. HasGoneOn state line.now journal.old.entries journal.new.entries (F.state store.new.flash) store.new.end store.new.places.entries) }
 {
@@ -65,7 +65,9 @@ fn run_lines<F: Flash>(
     requires stands { StandsFor (F.state store.old.flash) store.old.end store.old.places.entries first_state }
     requires early { All IsEarly lines.now }
     requires count { length lines.now ≤ 8192 }
-    ensures { IfOk result (λ journal. IsReplayOf lines.now journal.entries) }
+    ensures ready { IfOk result (λ _. IsReady (F.state store.new.flash) store.new.end store.new.places.entries store.new.work.items) }
+    ensures geometry { (F.state store.new.flash).geometry ≡ (F.state store.old.flash).geometry }
+    ensures run { IfOk result (λ journal. HasRun lines.now journal.entries (F.state store.new.flash) store.new.end store.new.places.entries) }
 {
     let mut journal = Journal::new(alloc);
     for line in lines {
@@ -74,16 +76,30 @@ fn run_lines<F: Flash>(
     Ok(journal)
 }
 
-/// The history of a replay of these lines over the image of an erased device. It refuses for want of memory alone.
-pub fn run_script(alloc: Global, image: Vec<u8>, lines: &[Line]) -> Result<Journal, NoMemory>
+/// A replay's history, and the image as it left it.
+#[derive(Drop)]
+pub struct Run {
+    pub journal: Journal,
+    pub image: Vec<u8>,
+}
+
+/// The history of a replay of these lines over the image of an erased device, and the image as it left it. It refuses
+/// for want of memory alone.
+pub fn run_script(alloc: Global, image: Vec<u8>, lines: &[Line]) -> Result<Run, NoMemory>
     requires erased { IsErasedImage image.items }
     requires early { All IsEarly lines.now }
     requires count { length lines.now ≤ 8192 }
-    ensures { IfOk result (λ journal. IsReplayOf lines.now journal.entries) }
+    ensures { IfOk result (λ run. IsReplayOf lines.now run.journal.entries run.image.items) }
 {
     let Ok(flash) = RecordFlash::new(alloc, GEOMETRY, image) else {
         return Err(NoMemory);
     };
-    let mut store = LogStore::new(alloc, flash)?;
-    run_lines(alloc, &mut store, lines)
+    let Ok(mut store) = LogStore::new(alloc, flash) else {
+        return Err(NoMemory);
+    };
+    let journal = run_lines(alloc, &mut store, lines)?;
+    Ok(Run {
+        journal,
+        image: store.into_flash().into_image(),
+    })
 }

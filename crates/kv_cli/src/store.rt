@@ -1,10 +1,10 @@
 // The store behind a replay: a log of records in the first area, and the place of the last record of each key.
-ghost use Rattle.std.specs.Prelude.{◌≡◌, ◌+◌, ◌-◌, ◌<◌, ◌≤◌, ℕ, length, take, drop, Ok, Err, IfOk, IsOk, IsErr, OnOk, Option, None, IsTrue};
+ghost use Rattle.std.specs.Prelude.{◌≡◌, ◌+◌, ◌-◌, ◌<◌, ◌≤◌, ℕ, length, take, drop, Ok, Err, IfOk, IfErr, IsOk, IsErr, OnOk, Option, None, IsTrue};
 ghost use Rattle.std.specs.Option.{option_map_or};
 ghost use Rattle.std.specs.FinMap.{empty, get};
 ghost use Rattle.flash_core.specs.Calls.{OnlyReads};
 ghost use Rattle.flash_core.specs.Images.{IsErased};
-ghost use Rattle.flash_core.specs.Sizes.{area_size};
+ghost use Rattle.flash_core.specs.Sizes.{area_size, size_of};
 ghost use Rattle.kv_model.specs.FlaggedMap.{Stored};
 ghost use Rattle.kv_model.specs.Flags.{remove_flags};
 ghost use Rattle.kv_model.specs.Keys.{is_key};
@@ -22,7 +22,7 @@ ghost use Rattle.kv_cli.specs.LogStore.{place_of, flags_in, with_record, without
 use crate::read::{read_flags, read_info, read_value, zeros};
 use flash_core::Flash;
 use kv_model::{Bytes, Call, Flags, Info, Key, KvError, NoMemory, Reply};
-use record_core::{padded_size, size_of_record, write_record};
+use record_core::{padded_size, size_of_record, write_master, write_record};
 use std::alloc::Global;
 use std::collections::BTreeMap;
 
@@ -30,6 +30,9 @@ const MAX_VALUE: usize = 65_572;
 
 // The flags of a record that takes its key out.
 const REMOVED: u32 = 0x8000_0000;
+
+// The version of the first master record.
+const FIRST_VERSION: u16 = 1;
 
 // At least the largest program unit.
 const WORK_SIZE: u32 = 4_096;
@@ -64,27 +67,33 @@ fn master_size(prog: u32) -> u32
 }
 
 impl<F: Flash> LogStore<F> {
-    /// An empty store over an erased device.
-    pub fn new(alloc: Global, flash: F) -> Result<LogStore<F>, NoMemory>
+    /// An empty store over an erased device: area 0 has a master record of version 1.
+    pub fn new(alloc: Global, mut flash: F) -> Result<LogStore<F>, KvError>
     where
         F: Drop,
         requires told { IsTold (F.state flash) }
-        requires erased { IsErased (image_of (F.state flash)) 0 (area_size (F.state flash).geometry) }
-        ensures device { IfOk result (λ store. store.flash ≡ flash) }
-        ensures ready { IfOk result (λ store. IsReady (F.state flash) store.end store.places.entries store.work.items) }
-        ensures stands { IfOk result (λ store. (vector : ℕ) → StandsFor (F.state flash) store.end store.places.entries (fresh_state empty empty vector 0)) }
+        requires erased { IsErased (image_of (F.state flash)) 0 (size_of (F.state flash).geometry) }
+        ensures geometry { IfOk result (λ store. (F.state store.flash).geometry ≡ (F.state flash).geometry) }
+        ensures ready { IfOk result (λ store. IsReady (F.state store.flash) store.end store.places.entries store.work.items) }
+        ensures stands { IfOk result (λ store. (vector : ℕ) → StandsFor (F.state store.flash) store.end store.places.entries (fresh_state empty empty vector 0)) }
+        ensures only { IfErr result (λ error. error ≡ KvError.Memory) }
     {
         let geometry = flash.geometry();
-        let work = match zeros(alloc, WORK_SIZE) {
-            Ok(work) => work,
-            Err(_) => return Err(NoMemory),
-        };
+        let mut work = zeros(alloc, WORK_SIZE)?;
+        write_master(&mut flash, 0, FIRST_VERSION, &mut work)?;
         Ok(LogStore {
             flash,
             end: master_size(geometry.prog),
             places: BTreeMap::new(alloc),
             work,
         })
+    }
+
+    /// Gives back the device. It takes no memory.
+    pub fn into_flash(self) -> F
+        ensures { result ≡ self.flash }
+    {
+        self.flash
     }
 
     /// One call of those that lines may ask for so far.
@@ -271,6 +280,7 @@ impl<F: Flash> LogStore<F> {
     fn append(&mut self, key: Key, value: &[u8], flags: u32) -> Result<Reply, NoMemory>
         requires ready { IsReady (F.state self.old.flash) self.old.end self.old.places.entries self.old.work.items }
         requires header { IsHeader flags (length key) (length value.now) }
+        requires plain { flags < 2 }
         requires fits { self.old.end + record_size (F.state self.old.flash).geometry.prog (length key) (length value.now) ≤ area_size (F.state self.old.flash).geometry }
         requires valid { IsTrue (is_key key) }
         ensures ready { IsReady (F.state self.new.flash) self.new.end self.new.places.entries self.new.work.items }

@@ -1,15 +1,15 @@
-use Rattle.std.proofs.Common.{ℕ, ◌+◌, List, [], ◌∷◌, ◌++◌, take, length, sym, subst, ◌∙◌, ap, add-one, length-append}
+use Rattle.std.proofs.Common.{ℕ, ◌+◌, List, [], ◌∷◌, ◌++◌, take, length, refl, sym, subst, ◌∙◌, ap, add-one, length-append}
 use Rattle.std.proofs.Math.Seq.{take-suc}
 use Rattle.std.proofs.lemmas.List.{take_all}
 use Rattle.script_core.specs.declared.line.Line.{Line}
 use Rattle.kv_cli.specs.Runs.{HasRun}
-use Rattle.kv_cli.proofs.RunLemmas.{run_none, run_more, run_all}
+use Rattle.kv_cli.proofs.RunLemmas.{run_none, run_more}
 use Rattle.kv_cli.proofs.run.run_lines.Goals as goal
 
 pub loop-line-init : goal.loop-line-init
 loop-line-init g c = record {
   ready = c.requires.ready;
-  over = c.requires.over;
+  same = refl;
   run = run_none c.new-journal.result.entries (g.F.Flash.state c.args.store.now.flash) c.args.store.now.end c.args.store.now.places.entries c.new-journal.ensures c.requires.stands;
   count = ap length c.new-journal.ensures;
 }
@@ -28,14 +28,13 @@ loop-line-preserved g c =
     c.loop-line.store.places.entries c.run_line.new.store.places.entries run gone in
     record {
       ready = c.in_ok-run_line.ensures.ready;
-      over = c.in_ok-run_line.ensures.over;
+      same = c.in_ok-run_line.ensures.geometry ∙ c.loop-line.invariant.same;
       run = subst (λ (ls : List Line). HasRun ls c.run_line.new.journal.entries s c.run_line.new.store.end c.run_line.new.store.places.entries) (sym grown) more;
       count = ap length gone.appended ∙ length-append old (gone.entry ∷ []) ∙ ap (λ (n : ℕ). n + 1) c.loop-line.invariant.count;
     }
 
-pub returns : goal.returns
-returns g c =
+pub returns-clause-run : goal.returns-clause-run
+returns-clause-run g c =
     let s = g.F.Flash.state c.loop-line.store.flash in
-    run_all c.args.lines.now c.loop-line.journal.entries s c.loop-line.store.end c.loop-line.store.places.entries
-    (subst (λ (ls : List Line). HasRun ls c.loop-line.journal.entries s c.loop-line.store.end c.loop-line.store.places.entries)
-    (take_all c.loop-line.line-index c.args.lines.now c.loop-line-test.false) c.loop-line.invariant.run)
+    subst (λ (ls : List Line). HasRun ls c.loop-line.journal.entries s c.loop-line.store.end c.loop-line.store.places.entries)
+    (take_all c.loop-line.line-index c.args.lines.now c.loop-line-test.false) c.loop-line.invariant.run

@@ -1,6 +1,5 @@
 use Rattle.std.proofs.Common.{◌≡◌, take, length}
-use Rattle.kv_cli.specs.LogStore.{IsReady, IsOver}
-use Rattle.kv_cli.specs.Replays.{run_constants}
+use Rattle.kv_cli.specs.LogStore.{IsReady}
 use Rattle.kv_cli.specs.Runs.{HasRun}
 use Rattle.kv_cli.proofs.run.run_lines.Given as goal
 
@@ -10,7 +9,7 @@ invariant-loop-line g l =
     let s = g.F.Flash.state l.store.flash in
     record {
       ready : IsReady s l.store.end l.store.places.entries l.store.work.items;
-      over : IsOver s.geometry run_constants;
+      same : s.geometry ≡ (g.F.Flash.state l.initial.store.flash).geometry;
       run : HasRun (take l.line-index l.lines) l.journal.entries s l.store.end l.store.places.entries;
       count : length l.journal.entries ≡ l.line-index;
     }

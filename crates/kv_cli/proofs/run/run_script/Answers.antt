@@ -9,14 +9,12 @@ use Rattle.flash_core.specs.RecordDevice.{IsMemoryOf, memory_state}
 use Rattle.kv_model.specs.Sizes.{up}
 use Rattle.kv_cli.specs.Images.{IsErasedImage}
 use Rattle.kv_cli.specs.Writing.{image_of, IsTold}
-use Rattle.kv_cli.specs.LogStore.{IsOver, StandsFor}
-use Rattle.kv_cli.specs.Replays.{run_constants, first_state}
+use Rattle.kv_cli.specs.LogStore.{IsOver}
+use Rattle.kv_cli.proofs.RunLemmas.{run_all}
+use Rattle.kv_cli.specs.Replays.{run_constants, run_geometry}
 use Rattle.kv_cli.proofs.run.run_script.Goals as goal
 
-abbrev first_geometry : Geometry
-first_geometry = record { prog = 8; erase = 4096; units_per_area = 16 }
-
-is_valid : IsValid first_geometry
+is_valid : IsValid run_geometry
 unfolding lib.Count.ones
 is_valid = record {
   prog_is_power = refl;
@@ -36,7 +34,7 @@ new-requires-clause-valid c = is_valid
 image_is : (s : FlashState) (image : List ℕ) → s.image ≡ Some image → image_of s ≡ image
 image_is s image told = ap (λ i. unwrap_or i []) told
 
-is_told : (s : FlashState) (image : List ℕ) → IsMemoryOf s first_geometry image → IsErasedImage image → IsTold s
+is_told : (s : FlashState) (image : List ℕ) → IsMemoryOf s run_geometry image → IsErasedImage image → IsTold s
 is_told s image memory erased = record {
   valid = subst IsValid (sym memory.geometry_is) is_valid;
   sound = memory.sound;
@@ -50,10 +48,17 @@ new-requires-2-clause-told c = is_told _ _ c.in-Ok.ensures c.requires.erased
 pub run_lines-requires-clause-over : goal.run_lines-requires-clause-over
 unfolding up
 run_lines-requires-clause-over c =
-    let same = ap (λ flash. flash.geometry) c.in_ok-store.ensures.device ∙ c.in-Ok.ensures.geometry_is in
+    let same = c.in-Ok-new.ensures.geometry ∙ c.in-Ok.ensures.geometry_is in
     subst (λ (g : Geometry). IsOver g run_constants) (sym same) (record { prog = refl; room = refl })
 
 pub run_lines-requires-clause-stands : goal.run_lines-requires-clause-stands
-run_lines-requires-clause-stands c =
-    subst (λ (flash : RecordFlash). StandsFor (memory_state flash.geometry flash.image.items) c.in_ok-store.store.end c.in_ok-store.store.places.entries first_state)
-    (sym c.in_ok-store.ensures.device) (c.in_ok-store.ensures.stands 1)
+run_lines-requires-clause-stands c = c.in-Ok-new.ensures.stands 1
+
+pub returns : goal.returns
+returns c =
+    let flash = c.run_lines.new.store.flash in
+    let image = c.into_image.result.items in
+    let told = ap (λ (f : RecordFlash). Some f.image.items) (sym c.into_flash.ensures) ∙ c.into_image.ensures in
+    let same = c.in_ok-journal.ensures.geometry ∙ c.in-Ok-new.ensures.geometry ∙ c.in-Ok.ensures.geometry_is in
+    run_all c.args.lines.now c.in_ok-journal.journal.entries (memory_state flash.geometry flash.image.items) c.run_lines.new.store.end c.run_lines.new.store.places.entries
+    c.run_lines.new.store.work.items image same told c.in_ok-journal.ensures.ready c.in_ok-journal.ensures.run

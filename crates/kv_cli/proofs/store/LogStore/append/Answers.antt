@@ -27,4 +27,4 @@ returns-clause-stands g c state stands =
     ∙ ap (λ (key : List ℕ). cond (is_eq (slice_cmp nat_cmp key other)) (Some end) (place_of c.args.self.now.places.entries other)) c.in_ok-copy_of.ensures in
     subst (λ (places : Places). StandsFor new c.write.new.self.end places (with_record s.geometry.prog state c.args.key stored)) (sym c.write.ensures.places)
     (subst (λ (later : ℕ). StandsFor new later c.insert.new.self.entries (with_record s.geometry.prog state c.args.key stored)) (sym c.write.ensures.end)
-    (set_after s new end c.args.self.now.places.entries c.insert.new.self.entries c.args.key c.requires.valid c.requires.ready.device stored c.requires.header c.write.ensures.written updated state stands))
+    (set_after s new end c.args.self.now.places.entries c.insert.new.self.entries c.args.key c.requires.valid c.requires.ready.device stored c.requires.plain c.requires.fits c.requires.header c.write.ensures.written updated state stands))

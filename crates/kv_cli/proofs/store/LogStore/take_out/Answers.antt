@@ -16,4 +16,4 @@ returns-clause-stands g c state stands =
     let updated = λ (other : List ℕ). c.remove.ensures.updates.0 other
     ∙ ap (λ (places : Places). cond (is_eq (slice_cmp nat_cmp key other)) None (place_of places other)) c.write-written.ensures.places in
     subst (λ (later : ℕ). StandsFor new later c.remove.new.self.entries (without_record s.geometry.prog state key)) (sym c.write-written.ensures.end)
-    (removed_after s new c.args.self.now.end c.args.self.now.places.entries c.remove.new.self.entries key c.requires.valid c.requires.ready.device c.write-written.ensures.written updated state stands)
+    (removed_after s new c.args.self.now.end c.args.self.now.places.entries c.remove.new.self.entries key c.requires.valid c.requires.ready.device c.requires.fits c.requires.header c.write-written.ensures.written updated state stands)
