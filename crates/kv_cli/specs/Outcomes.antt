@@ -27,7 +27,8 @@ image_line = codes "refused: image\n"
 pub record Replays (words : List (List ℕ)) (contents : HostContents) (entries : List Entry) : Type 0 where
   pub lines : List Line
   pub gives : GivesReplay words contents lines
-  pub replay : IsReplayOf lines entries
+  pub image : List ℕ
+  pub replay : IsReplayOf lines entries image
 
 -- the words and the files give this line of a refusal
 abbrev pub GivesLine : List (List ℕ) → HostContents → List ℕ → Type 0
@@ -68,7 +69,8 @@ pub record AreRead (words : List (List ℕ)) (told : Option HostContents) (lines
 pub record IsReplayed (words : List (List ℕ)) (told : Option HostContents) (entries : List Entry) : Type 0 where
   pub lines : List Line
   pub read : AreRead words told lines
-  pub replay : IsReplayOf lines entries
+  pub image : List ℕ
+  pub replay : IsReplayOf lines entries image
 
 -- why reading a file stopped
 abbrev pub Halts : ℕ → ℕ → Stop → Type 0

@@ -56,7 +56,7 @@ fn replay<H: Host>(alloc: Global, words: &[RcStr], host: &mut H) -> Result<Repla
     ensures calm { (names room : ℕ) → H.is_calm host.old names room → (result ≢ Err Stop.Fault) × H.is_calm host.new names room }
 {
     let inputs = read_inputs(alloc, words, host)?;
-    let journal = run_script(alloc, inputs.image, inputs.script.lines())?;
+    let journal = run_script(alloc, inputs.image, inputs.script.lines())?.journal;
     let text = journal.text(alloc)?;
     Ok(Replayed { journal, text })
 }
@@ -120,9 +120,9 @@ pub fn tool<H: Host>(alloc: Global, words: &[RcStr], host: &mut H) -> Report
     ensures count { H.faults host.old ≤ H.faults host.new }
     ensures statuses { (result.status ≤ 4) ⊎ (result.status ≡ 9) }
     ensures images { (result.primary ≡ []) × (result.rollback ≡ []) }
-    ensures replay { result.status ≡ 0 → (lines : List Line) × All IsEarly lines × IsReplayOf lines result.journal.entries }
+    ensures replay { result.status ≡ 0 → (lines : List Line) × All IsEarly lines × ((image : List ℕ) × IsReplayOf lines result.journal.entries image) }
     ensures done { result.status ≡ 0 → IfTold (H.contents host.old) (λ c. (lines : List Line)
-        × GivesReplay (map rc_str_bytes words.now) c lines × IsReplayOf lines result.journal.entries
+        × GivesReplay (map rc_str_bytes words.now) c lines × ((image : List ℕ) × IsReplayOf lines result.journal.entries image)
         × (H.contents host.new ≡ Some (with_printed (text_of result.journal.entries) c))) }
     ensures words { result.status ≡ 1 → names_of (map rc_str_bytes words.now) ≡ None }
     ensures words_printed { result.status ≡ 1 → (result.journal.entries ≡ [])
