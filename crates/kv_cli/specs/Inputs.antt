@@ -1,12 +1,12 @@
--- What the words and the files give, and what they lack.
-use Rattle.std.specs.Prelude.{◌≡◌, ◌≤◌, ℕ, false, List, length, All, Some}
+-- What the words and the files give.
+use Rattle.std.specs.Prelude.{◌≡◌, ◌≤◌, ◌⊎◌, ℕ, false, List, ◌∷◌, ◌++◌, length, All, Some}
 use Rattle.kv_host.specs.Contents.{HostContents, file_at}
 use Rattle.kv_model.specs.declared.call.Call.TheVariants as call
 use Rattle.script_core.specs.declared.line.Act.{Act}
 use Rattle.script_core.specs.declared.line.Act.TheVariants.{Do}
 use Rattle.script_core.specs.declared.line.Line.{Line}
 use Rattle.script_core.specs.declared.script.ScriptMode.{ScriptMode}
-use Rattle.script_core.specs.Grammar.{IsScript}
+use Rattle.script_core.specs.Grammar.{lines_of, is_skipped, IsGood, ReadsUpTo, IsScript, IsFirstBad, IsOneTooMany}
 use Rattle.kv_cli.specs.Images.{IsErasedImage}
 use Rattle.kv_cli.specs.Words.{Names, names_of}
 
@@ -51,6 +51,25 @@ pub record HasScript (name : List ℕ) (contents : HostContents) (lines : List L
   pub readable : IsReadable script_limit name contents text
   pub script : IsEarlyScript text lines
 
+-- The text is a script, and the line of this number is the first that asks for what is not built yet.
+pub record IsFirstUnbuilt (text : List ℕ) (number : ℕ) : Type 0 where
+  pub line : List ℕ
+  pub later : List (List ℕ)
+  pub early : List Line
+  pub read : Line
+  pub others : List Line
+  pub script : IsScript plain_replay text (early ++ read ∷ others)
+  pub before : ReadsUpTo plain_replay 1 (lines_of text) number line later early
+  pub not_skipped : is_skipped line ≡ false
+  pub good : IsGood plain_replay later line read
+  pub each : All IsEarly early
+  pub unbuilt : IsEarly read → ⊥
+
+-- The line of this number is to blame that the text is no script: the first that is not of the grammar, or the first
+-- call line too many; where there is neither, the first that asks for what is not built yet.
+abbrev pub IsBadLine : List ℕ → ℕ → Type 0
+IsBadLine text number = IsFirstBad plain_replay text number ⊎ IsOneTooMany plain_replay text number ⊎ IsFirstUnbuilt text number
+
 -- ---- the image
 
 -- the file of this name is the image of an erased device
@@ -67,17 +86,3 @@ pub record GivesReplay (words : List (List ℕ)) (contents : HostContents) (line
   pub named : names_of words ≡ Some names
   pub script : HasScript names.script contents lines
   pub image : HasImage names.primary contents
-
--- the script that the words name is absent, over its limit, or not of the grammar
-pub record LacksScript (words : List (List ℕ)) (contents : HostContents) : Type 0 where
-  pub names : Names
-  pub named : names_of words ≡ Some names
-  pub lacks : (lines : List Line) → HasScript names.script contents lines → ⊥
-
--- the script is there; the image that the words name is absent, over its limit, or not erased
-pub record LacksImage (words : List (List ℕ)) (contents : HostContents) : Type 0 where
-  pub names : Names
-  pub named : names_of words ≡ Some names
-  pub lines : List Line
-  pub script : HasScript names.script contents lines
-  pub lacks : HasImage names.primary contents → ⊥

@@ -3,7 +3,10 @@ pub mod Inputs
 pub mod LogStore
 pub mod Outcomes
 pub mod Reading
+pub mod Refusals
 pub mod Replays
 pub mod Runs
+pub mod Searches
+pub mod Shown
 pub mod Words
 pub mod Writing

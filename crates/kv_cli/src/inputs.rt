@@ -1,31 +1,23 @@
 // What a replay reads before it begins.
-ghost use Rattle.std.specs.Prelude.{◌≡◌, ◌≢◌, ◌≤◌, ◌<◌, ◌+◌, ◌^◌, ◌↔◌, ℕ, List, length, map, All, IsTrue, Err, IfOk, IfErr, MatchOption, MatchResult};
-ghost use Rattle.std.specs.Bool.{OnTrue, OnFalse};
-ghost use Rattle.std.specs.Rc.{rc_str_bytes};
+ghost use Rattle.std.specs.Prelude.{◌≡◌, ◌≢◌, ◌≤◌, ◌<◌, ◌+◌, ◌^◌, ◌↔◌, ℕ, List, length, All, IsTrue, Err, IfOk, IfErr, MatchResult};
 ghost use Rattle.kv_host.specs.Contents.{IfTold};
+ghost use Rattle.flash_core.specs.Images.{IsErased};
 ghost use Rattle.script_core.specs.declared.line.Line.{Line};
-ghost use Rattle.kv_cli.specs.Images.{IsErasedImage};
-ghost use Rattle.kv_cli.specs.Inputs.{IsReadable, IsEarly, IsEarlyScript, HasScript, HasImage};
-ghost use Rattle.kv_cli.specs.Outcomes.{AreRead, Halts, StopsAtScript, StopsAtImage, StopsFor, OfScript};
+ghost use Rattle.kv_cli.specs.Images.{image_size, IsErasedImage};
+ghost use Rattle.kv_cli.specs.Inputs.{IsReadable, IsEarly, HasScript, HasImage};
+ghost use Rattle.kv_cli.specs.Outcomes.{AreRead, IsWrongImage, StopsAtFile, StopsAtScript, StopsAtImage, StopsFor, stop_of};
+ghost use Rattle.kv_cli.specs.Refusals.{limit_of};
+ghost use Rattle.kv_cli.specs.Shown.{names_in};
 
+use crate::refusal::{File, Refusal};
+use crate::script::early_script;
 use crate::stop::Stop;
-use crate::words::names_of;
+use crate::words::Names;
 use kv_host::{Host, HostFault};
-use kv_model::Call;
-use script_core::{Act, Line, Script, ScriptError, ScriptMode, parse_script};
+use script_core::Script;
 use std::alloc::Global;
-use std::rc::RcStr;
-
-const SCRIPT_LIMIT: u32 = 2_097_152;
-
-const IMAGE_LIMIT: u32 = 16_777_216;
 
 const IMAGE_SIZE: usize = 131_072;
-
-const PLAIN_REPLAY: ScriptMode = ScriptMode {
-    threads: false,
-    secure: false,
-};
 
 /// A script and the image of an erased device.
 #[derive(Drop)]
@@ -34,74 +26,31 @@ pub struct Inputs {
     pub image: Vec<u8>,
 }
 
-// The bytes of a file; none where it is absent or longer than the limit.
-fn read<H: Host>(
-    alloc: Global,
-    host: &mut H,
-    name: &str,
-    limit: u32,
-) -> Result<Option<Vec<u8>>, Stop>
+fn stop_of(file: File, fault: HostFault) -> Stop
+    ensures { result ≡ stop_of file fault }
+{
+    let refusal = match fault {
+        HostFault::Fault => return Stop::Fault,
+        HostFault::Memory => return Stop::Memory,
+        HostFault::TooLong { .. } => Refusal::TooLong { file },
+        HostFault::Absent => Refusal::Absent { file },
+    };
+    Stop::Refused { refusal }
+}
+
+// The bytes of a file.
+fn read<H: Host>(alloc: Global, host: &mut H, file: File, name: &str) -> Result<Vec<u8>, Stop>
     ensures count { H.faults host.old ≤ H.faults host.new }
     ensures stands { H.contents host.new ≡ H.contents host.old }
-    ensures within { IfOk result (λ found. MatchOption found (Unit {0}) (λ bytes. length bytes.items ≤ limit)) }
-    ensures read { IfOk result (λ found. IfTold (H.contents host.old) (λ c. MatchOption found
-        ((bytes : List ℕ) → IsReadable limit name.now c bytes → ⊥) (λ bytes. IsReadable limit name.now c bytes.items))) }
-    ensures halts { IfErr result (Halts (H.faults host.old) (H.faults host.new)) }
+    ensures within { IfOk result (λ bytes. length bytes.items ≤ limit_of file) }
+    ensures read { IfOk result (λ bytes. IfTold (H.contents host.old) (λ c. IsReadable (limit_of file) name.now c bytes.items)) }
+    ensures stops { IfErr result (StopsAtFile file name.now (H.contents host.old) (H.faults host.old) (H.faults host.new)) }
     ensures calm { (names room : ℕ) → H.is_calm host.old names room → (result ≢ Err Stop.Fault) × H.is_calm host.new names room }
 {
     let mut bytes = Vec::new(alloc);
-    match host.read_file(name, limit, &mut bytes) {
-        Ok(()) => Ok(Some(bytes)),
-        Err(HostFault::TooLong { .. } | HostFault::Absent) => Ok(None),
-        Err(HostFault::Fault) => Err(Stop::Fault),
-        Err(HostFault::Memory) => Err(Stop::Memory),
-    }
-}
-
-// So far client 1 alone calls, and neither starts a set nor iterates, resets or mounts.
-fn is_early(line: &Line) -> bool
-    ensures { IsTrue result ↔ IsEarly line.now }
-{
-    line.who == 1
-        && matches!(
-            &line.act,
-            Act::Do {
-                call: Call::Get { .. }
-                    | Call::Part { .. }
-                    | Call::Info { .. }
-                    | Call::Set { .. }
-                    | Call::Remove { .. }
-            }
-        )
-}
-
-fn are_early(lines: &[Line]) -> bool
-    ensures yes { OnTrue result (All IsEarly lines.now) }
-    ensures no { OnFalse result (All IsEarly lines.now → ⊥) }
-{
-    for line in lines {
-        if !is_early(line) {
-            return false;
-        }
-    }
-    true
-}
-
-// The script that a text is.
-fn early_script(alloc: Global, bytes: &[u8]) -> Result<Script, Stop>
-    requires { length bytes.now + 1 < 2 ^ 32 }
-    ensures { MatchResult result (IsEarlyScript bytes.now) (OfScript ((lines : List Line) → IsEarlyScript bytes.now lines → ⊥)) }
-{
-    match parse_script(alloc, bytes, PLAIN_REPLAY) {
-        Ok(script) => {
-            if are_early(script.lines()) {
-                Ok(script)
-            } else {
-                Err(Stop::Script)
-            }
-        }
-        Err(ScriptError::Memory) => Err(Stop::Memory),
-        Err(_) => Err(Stop::Script),
+    match host.read_file(name, file.limit(), &mut bytes) {
+        Ok(()) => Ok(bytes),
+        Err(fault) => Err(stop_of(file, fault)),
     }
 }
 
@@ -113,16 +62,28 @@ fn read_script<H: Host>(alloc: Global, host: &mut H, name: &str) -> Result<Scrip
     ensures stops { IfErr result (StopsAtScript name.now (H.contents host.old) (H.faults host.old) (H.faults host.new)) }
     ensures calm { (names room : ℕ) → H.is_calm host.old names room → (result ≢ Err Stop.Fault) × H.is_calm host.new names room }
 {
-    match read(alloc, host, name, SCRIPT_LIMIT)? {
-        Some(bytes) => early_script(alloc, &bytes),
-        None => Err(Stop::Script),
-    }
+    let bytes = read(alloc, host, File::Script, name)?;
+    early_script(alloc, &bytes)
 }
 
 fn is_erased(image: &[u8]) -> bool
+    requires { length image.now ≡ image_size }
     ensures { IsTrue result ↔ IsErasedImage image.now }
 {
-    image.len() == IMAGE_SIZE && image.iter().all(|byte| *byte == 0xFF)
+    image.iter().all(|byte| *byte == 0xFF)
+}
+
+// Whether these bytes are the image of an erased device, and why not.
+fn check_image(image: &[u8]) -> Result<(), Refusal>
+    ensures { MatchResult result (λ _. IsErasedImage image.now) (IsWrongImage image.now) }
+{
+    if image.len() != IMAGE_SIZE {
+        return Err(Refusal::WrongSize { size: image.len() });
+    }
+    if !is_erased(image) {
+        return Err(Refusal::NotErased);
+    }
+    Ok(())
 }
 
 fn read_image<H: Host>(alloc: Global, host: &mut H, name: &str) -> Result<Vec<u8>, Stop>
@@ -133,29 +94,27 @@ fn read_image<H: Host>(alloc: Global, host: &mut H, name: &str) -> Result<Vec<u8
     ensures stops { IfErr result (StopsAtImage name.now (H.contents host.old) (H.faults host.old) (H.faults host.new)) }
     ensures calm { (names room : ℕ) → H.is_calm host.old names room → (result ≢ Err Stop.Fault) × H.is_calm host.new names room }
 {
-    match read(alloc, host, name, IMAGE_LIMIT)? {
-        Some(image) if is_erased(&image) => Ok(image),
-        _ => Err(Stop::Image),
+    let image = read(alloc, host, File::Primary, name)?;
+    match check_image(&image) {
+        Ok(()) => Ok(image),
+        Err(refusal) => Err(Stop::Refused { refusal }),
     }
 }
 
 /// Reads the script that the words name, and then the image. Nothing is printed and no file is written.
 ///
 /// # Errors
-/// `Words` where the words are no replay; `Script` where the script is absent, longer than 2,097,152 bytes or not of
-/// the grammar; `Image` where the image is absent, longer than 16,777,216 bytes or not 131,072 bytes 0xFF; `Fault`
-/// where the host's count of faults rose; `Memory` where memory ran out.
-pub fn read_inputs<H: Host>(alloc: Global, words: &[RcStr], host: &mut H) -> Result<Inputs, Stop>
+/// `Refused` with the first thing that is wrong with the files: the script absent, longer than 2,097,152 bytes, or with a
+/// bad line; the image absent, longer than 16,777,216 bytes, or not 131,072 bytes 0xFF. `Fault` where the host's count
+/// of faults rose; `Memory` where memory ran out.
+pub fn read_inputs<H: Host>(alloc: Global, names: Names<'_>, host: &mut H) -> Result<Inputs, Stop>
     ensures count { H.faults host.old ≤ H.faults host.new }
     ensures stands { H.contents host.new ≡ H.contents host.old }
-    ensures read { IfOk result (λ inputs. AreRead (map rc_str_bytes words.now) (H.contents host.old) inputs.script) }
+    ensures read { IfOk result (λ inputs. AreRead (names_in names.entry) (H.contents host.old) inputs.script) }
     ensures erased { IfOk result (λ inputs. IsErasedImage inputs.image.items) }
-    ensures stops { IfErr result (StopsFor (map rc_str_bytes words.now) (H.contents host.old) (H.faults host.old) (H.faults host.new)) }
+    ensures stops { IfErr result (StopsFor (names_in names.entry) (H.contents host.old) (H.faults host.old) (H.faults host.new)) }
     ensures calm { (names room : ℕ) → H.is_calm host.old names room → (result ≢ Err Stop.Fault) × H.is_calm host.new names room }
 {
-    let Some(names) = names_of(words) else {
-        return Err(Stop::Words);
-    };
     let script = read_script(alloc, host, names.script)?;
     let image = read_image(alloc, host, names.primary)?;
     Ok(Inputs { script, image })

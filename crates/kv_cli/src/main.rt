@@ -4,7 +4,9 @@
 mod inputs;
 mod laws;
 mod read;
+mod refusal;
 mod run;
+mod script;
 mod stop;
 mod store;
 #[cfg(test)]

@@ -1,17 +1,14 @@
 ghost use Rattle.std.specs.Prelude.{◌≡◌};
 ghost use Rattle.kv_cli.specs.declared.stop.Stop.TheVariants as of;
 
+use crate::refusal::Refusal;
 use kv_model::NoMemory;
 
-/// Why a command stopped before its end.
+/// Why a replay stopped before its end.
 #[derive(Clone, Copy, Debug, PartialEq, Eq)]
 pub enum Stop {
-    /// The words are no command.
-    Words,
-    /// The script is absent, too long or not of the grammar.
-    Script,
-    /// The image is absent, too long or not that of an erased device.
-    Image,
+    /// The files are to blame.
+    Refused { refusal: Refusal },
     /// A call of the host failed.
     Fault,
     /// There was no memory.

@@ -5,8 +5,8 @@ use std::process::Abort;
 use std::rc::RcStr;
 use std::test::Fail;
 
-/// A host takes this many bytes, a script over its limit among them.
-const ROOM: u32 = 2_400_000;
+/// A host takes this many bytes, an image over its limit among them.
+const ROOM: u32 = 17_000_000;
 
 /// What the words and the files are, which calls of the host fail, and what must come.
 #[derive(Drop)]
@@ -83,39 +83,102 @@ fn words_of_another_form_are_refused(rt: HostRuntime) -> Result<(), Fail> {
     Ok(())
 }
 
+/// Tries a replay of these files, of which nothing is to come but this line.
+fn refuses<'a, R: Abort>(
+    rt: &R,
+    alloc: Global,
+    script: Option<&'a [u8]>,
+    image: Option<&'a [u8]>,
+    status: u8,
+    printed: &'a [u8],
+) -> Result<(), Fail> {
+    let case = Case {
+        words: &REPLAY,
+        script,
+        image,
+        failing: &[],
+        status,
+        printed,
+    };
+    check(rt, alloc, &case)
+}
+
 #[test]
-fn scripts_that_are_none_are_refused(rt: HostRuntime) -> Result<(), Fail> {
+fn files_that_are_absent_are_refused(rt: HostRuntime) -> Result<(), Fail> {
     let alloc = rt.alloc();
-    let too_long = vec![in alloc; b'#'; 2_097_153]?;
+    let case = Case {
+        words: &REPLAY,
+        script: None,
+        image: None,
+        failing: &[],
+        status: 6,
+        printed: b"refused: file s absent\n",
+    };
+    check(&rt, alloc, &case)?;
+    let case = Case {
+        words: &REPLAY,
+        script: Some(b"1 get a"),
+        image: None,
+        failing: &[],
+        status: 6,
+        printed: b"refused: file p absent\n",
+    };
+    check(&rt, alloc, &case)
+}
+
+#[test]
+fn files_over_their_limit_are_refused(rt: HostRuntime) -> Result<(), Fail> {
+    let alloc = rt.alloc();
+    let script = vec![in alloc; b'#'; 2_097_153]?;
+    let case = Case {
+        words: &REPLAY,
+        script: Some(&script),
+        image: None,
+        failing: &[],
+        status: 6,
+        printed: b"refused: file s over 2097152 bytes\n",
+    };
+    check(&rt, alloc, &case)?;
+    let image = vec![in alloc; 0xFFu8; 16_777_217]?;
+    let case = Case {
+        words: &REPLAY,
+        script: Some(b"1 get a"),
+        image: Some(&image),
+        failing: &[],
+        status: 6,
+        printed: b"refused: file p over 16777216 bytes\n",
+    };
+    check(&rt, alloc, &case)
+}
+
+#[test]
+fn the_first_bad_line_is_named(rt: HostRuntime) -> Result<(), Fail> {
+    let alloc = rt.alloc();
     let mut too_many = Vec::new(alloc);
     for _ in 0..8193 {
         too_many.extend_from_slice(b"1 get a\n")?;
     }
-    let scripts: [Option<&[u8]>; 13] = [
-        None,
-        Some(&too_long),
-        Some(&too_many),
-        Some(b"2 get a"),
-        Some(b"0 mount"),
-        Some(b"1 start a 4 -"),
-        Some(b"1 put a 00 -"),
-        Some(b"1 iter 0 -"),
-        Some(b"1 get a "),
-        Some(b"1  get a"),
-        Some(b"1 get"),
-        Some(b"1 set a 0 -"),
-        Some(b"1 get a\n01 get a\n"),
+    let mut too_many_behind_a_comment = b"# calls\n\n".to_vec(alloc)?;
+    too_many_behind_a_comment.extend_from_slice(&too_many)?;
+    let cases: [(&[u8], &[u8]); 15] = [
+        (b"1 get a\n1 frob", b"refused: line 2\n"),
+        (&too_many, b"refused: line 8193\n"),
+        (&too_many_behind_a_comment, b"refused: line 8195\n"),
+        (b"2 get a", b"refused: line 1\n"),
+        (b"0 mount", b"refused: line 1\n"),
+        (b"1 start a 4 -", b"refused: line 1\n"),
+        (b"1 put a 00 -", b"refused: line 1\n"),
+        (b"1 get a ", b"refused: line 1\n"),
+        (b"1  get a", b"refused: line 1\n"),
+        (b"1 get", b"refused: line 1\n"),
+        (b"1 set a 0 -", b"refused: line 1\n"),
+        (b"1 get a\n01 get a\n", b"refused: line 2\n"),
+        (b"# a\n\n1 get a\n\n2 get a\n3 get a", b"refused: line 5\n"),
+        (b"1 get a\n2 get a\n# b\n1 frob", b"refused: line 4\n"),
+        (b"1 get a\n2 get a\n1 get", b"refused: line 3\n"),
     ];
-    for script in scripts {
-        let case = Case {
-            words: &REPLAY,
-            script,
-            image: None,
-            failing: &[],
-            status: 2,
-            printed: b"refused: script\n",
-        };
-        check(&rt, alloc, &case)?;
+    for (script, printed) in cases {
+        refuses(&rt, alloc, Some(script), None, 2, printed)?;
     }
     Ok(())
 }
@@ -123,27 +186,19 @@ fn scripts_that_are_none_are_refused(rt: HostRuntime) -> Result<(), Fail> {
 #[test]
 fn images_that_are_not_erased_are_refused(rt: HostRuntime) -> Result<(), Fail> {
     let alloc = rt.alloc();
+    let script: Option<&[u8]> = Some(b"# nothing\n\n1 set a 00ff -\n1 get a\n");
     let shorter = vec![in alloc; 0xFFu8; 131_071]?;
-    let longer = vec![in alloc; 0xFFu8; 131_073]?;
+    let longer = vec![in alloc; 0u8; 131_073]?;
     let mut written = vec![in alloc; 0xFFu8; 131_071]?;
     written.push(0)?;
-    let images: [Option<&[u8]>; 5] = [
-        None,
-        Some(b""),
-        Some(&shorter),
-        Some(&longer),
-        Some(&written),
+    let cases: [(&[u8], &[u8]); 4] = [
+        (b"", b"refused: image p has 0 bytes, not 131072\n"),
+        (&shorter, b"refused: image p has 131071 bytes, not 131072\n"),
+        (&longer, b"refused: image p has 131073 bytes, not 131072\n"),
+        (&written, b"refused: image p is not erased\n"),
     ];
-    for image in images {
-        let case = Case {
-            words: &REPLAY,
-            script: Some(b"# nothing\n\n1 set a 00ff -\n1 get a\n"),
-            image,
-            failing: &[],
-            status: 3,
-            printed: b"refused: image\n",
-        };
-        check(&rt, alloc, &case)?;
+    for (image, printed) in cases {
+        refuses(&rt, alloc, script, Some(image), 3, printed)?;
     }
     Ok(())
 }
@@ -177,6 +232,20 @@ fn a_call_of_the_host_that_fails_ends_the_work(rt: HostRuntime) -> Result<(), Fa
 
 // ---- replays over an erased image
 
+// The master record of version 1; its CRC is by another implementation of CRC-32.
+const MASTER: [u8; 40] = [
+    0x4b, 0x56, 0x52, 0x31, 0x18, 0x00, 0x01, 0x00, 0x00, 0x00, 0x00, 0x00, 0x04, 0x00, 0x00, 0x00,
+    0x08, 0x00, 0x00, 0x00, 0xaa, 0x37, 0xf7, 0x1e, 0x54, 0x44, 0x42, 0x53, 0x01, 0x00, 0x01, 0x00,
+    0x00, 0x00, 0x00, 0x00, 0xff, 0xff, 0xff, 0xff,
+];
+
+/// What a replay left: how many calls, and whether its image was written.
+#[derive(Clone, Copy, Debug, PartialEq, Eq)]
+struct Left {
+    calls: usize,
+    written: bool,
+}
+
 /// Tries a replay of a script over an erased image, in which the calls of these numbers fail.
 fn replays<'a, R: Abort>(
     rt: &R,
@@ -185,7 +254,7 @@ fn replays<'a, R: Abort>(
     failing: &'a [u32],
     status: u8,
     printed: &'a [u8],
-) -> Result<usize, Fail> {
+) -> Result<Left, Fail> {
     let erased = vec![in alloc; 0xFFu8; 131_072]?;
     let case = Case {
         words: &REPLAY,
@@ -199,9 +268,18 @@ fn replays<'a, R: Abort>(
     let report = report_of(alloc, &case, &mut host)?;
     assert_eq!(rt; report.status, status);
     assert_eq!(rt; host.printed(), printed);
-    assert!(rt; report.primary.as_slice().is_empty());
-    assert!(rt; host.file("p") == case.image, "the image stands");
-    Ok(report.journal.entries().len())
+    let primary = report.primary.as_slice();
+    let written = !primary.is_empty();
+    let expected = if written { Some(primary) } else { case.image };
+    assert!(rt;
+        host.file("p") == expected,
+        "the image is that of the report, or stands"
+    );
+    assert!(rt; !written || primary.len() == 131_072);
+    Ok(Left {
+        calls: report.journal.entries().len(),
+        written,
+    })
 }
 
 /// A line that sets a key of `length` letters.
@@ -257,15 +335,71 @@ fn replies_are_printed_a_line_each(rt: HostRuntime) -> Result<(), Fail> {
         (&too_full, b"1 1 error 6 media-full need 65504 room 65496\n"),
     ];
     for (script, printed) in cases {
-        replays(&rt, alloc, script, &[], 0, printed)?;
+        let left = replays(&rt, alloc, script, &[], 0, printed)?;
+        assert!(rt; left.written);
     }
     Ok(())
 }
 
 #[test]
-fn a_history_whose_printing_fails_stands_in_the_report(rt: HostRuntime) -> Result<(), Fail> {
+fn a_history_stands_where_writing_or_printing_fails(rt: HostRuntime) -> Result<(), Fail> {
     let script = b"1 set a 00ff -\n1 get a";
-    let calls = replays(&rt, rt.alloc(), script, &[3], 4, b"")?;
-    assert_eq!(rt; calls, 2);
+    // the number of the call that fails, and whether the image is written
+    for (call, written) in [(3, false), (4, true)] {
+        let left = replays(&rt, rt.alloc(), script, &[call], 4, b"")?;
+        assert_eq!(rt; left, Left { calls: 2, written });
+    }
+    Ok(())
+}
+
+#[test]
+fn an_empty_script_leaves_a_master_record(rt: HostRuntime) -> Result<(), Fail> {
+    let alloc = rt.alloc();
+    let erased = vec![in alloc; 0xFFu8; 131_072]?;
+    let mut expected = MASTER.to_vec(alloc)?;
+    for _ in 40..131_072 {
+        expected.push(0xFF)?;
+    }
+    let case = Case {
+        words: &REPLAY,
+        script: Some(b""),
+        image: Some(&erased),
+        failing: &[],
+        status: 0,
+        printed: b"",
+    };
+    let mut host = host_of(alloc, &case)?;
+    let report = report_of(alloc, &case, &mut host)?;
+    assert_eq!(rt; report.status, 0);
+    assert_eq!(rt; report.primary.as_slice(), expected.as_slice());
+    assert!(rt; host.file("p") == Some(expected.as_slice()));
+    Ok(())
+}
+
+/// How many calls a replay of a script over an erased image makes, and how many bytes it prints.
+fn sizes_of_a_replay<'a>(alloc: Global, script: &'a [u8]) -> Result<(usize, usize), Fail> {
+    let erased = vec![in alloc; 0xFFu8; 131_072]?;
+    let case = Case {
+        words: &REPLAY,
+        script: Some(script),
+        image: Some(&erased),
+        failing: &[],
+        status: 0,
+        printed: b"",
+    };
+    let mut host = host_of(alloc, &case)?;
+    let report = report_of(alloc, &case, &mut host)?;
+    Ok((report.journal.entries().len(), host.printed().len()))
+}
+
+#[test]
+fn as_many_call_lines_as_may_be_are_replayed(rt: HostRuntime) -> Result<(), Fail> {
+    let alloc = rt.alloc();
+    let mut script = Vec::new(alloc);
+    for _ in 0..8192 {
+        script.extend_from_slice(b"1 get a\n")?;
+    }
+    // each line prints 21 bytes and the digits of its index
+    assert_eq!(rt; sizes_of_a_replay(alloc, &script)?, (8192, 203_693));
     Ok(())
 }

@@ -1,0 +1,17 @@
+use Rattle.std.proofs.Common.{List, ℕ, sym, subst}
+use Rattle.std.proofs.lemmas.Result.{err_from_is_err_and}
+use Rattle.kv_host.specs.Contents.{IfTold}
+use Rattle.kv_cli.specs.Inputs.{script_limit, IsReadable}
+use Rattle.kv_cli.proofs.Causes.{script_stops, parse_stops}
+use Rattle.kv_cli.proofs.inputs.read_script.Goals as goal
+
+pub returns-in_err-bytes-clause-stops : goal.returns-in_err-bytes-clause-stops
+returns-in_err-bytes-clause-stops g c =
+    let p = err_from_is_err_and c.from_residual.result c.from_residual.ensures.1 in
+    rw (p.1, p.2) (script_stops _ _ _ _ c.in_err-bytes.field-0.0 c.in_err-bytes.ensures.stops)
+
+pub returns-clause-stops : goal.returns-clause-stops
+returns-clause-stops g c =
+    let told = g.H.Host.contents c.args.host.now in
+    let readable = subst (λ (text : List ℕ). IfTold told (λ contents. IsReadable script_limit c.args.name.now contents text)) (sym c.deref.ensures.value) c.in_ok-bytes.ensures.read in
+    parse_stops _ told c.args.name.now c.deref.result.now _ _ c.early_script.result c.early_script.ensures readable
