@@ -117,7 +117,7 @@ part_answer (Err error) result P bytes offset count is large part memory refuses
 
 -- what an info answers that read the header
 pub info_answer : (read : Result Info KvError) (result : Reply) (flags size : ℕ) → IsOkAnd read (λ info. (info.flags.bits ≡ flags) × (info.size ≡ size))
-    → IfOk read (λ info. result ≡ Facts info.size info.flags) → result ≡ Facts size (record { bits = flags })
+    → MatchResult read (λ info. result ≡ Facts info.size info.flags) (λ error. result ≡ Refused error) → result ≡ Facts size (record { bits = flags })
 info_answer (Ok info) result flags size is answers = answers ∙ (λ i. Facts (is.1 i) (record { bits = is.0 i }))
 info_answer (Err error) result flags size is answers = absurd is
 

@@ -1,5 +1,5 @@
 // The store behind a replay: a log of records in the first area, and the place of the last record of each key.
-ghost use Rattle.std.specs.Prelude.{◌≡◌, ◌+◌, ◌-◌, ◌<◌, ◌≤◌, ℕ, length, take, drop, Ok, Err, IfOk, IfErr, IsOk, IsErr, OnOk, Option, None, IsTrue};
+ghost use Rattle.std.specs.Prelude.{◌≡◌, ◌+◌, ◌-◌, ◌<◌, ◌≤◌, ℕ, length, take, drop, Ok, Err, IfOk, IfErr, IsOk, IsErr, OnOk, MatchResult, Option, None, IsTrue};
 ghost use Rattle.std.specs.Option.{option_map_or};
 ghost use Rattle.std.specs.FinMap.{empty, get};
 ghost use Rattle.flash_core.specs.Calls.{OnlyReads};
@@ -382,7 +382,7 @@ fn part_of(alloc: Global, value: &[u8], offset: u32, count: u32) -> Result<Reply
 
 // The reply of an info that read this.
 fn answer_info(read: Result<Info, KvError>) -> Reply
-    ensures { IfOk read (λ info. result ≡ Reply.Facts info.size info.flags) }
+    ensures { MatchResult read (λ info. result ≡ Reply.Facts info.size info.flags) (λ error. result ≡ Reply.Refused error) }
 {
     match read {
         Ok(Info { flags, size }) => Reply::Facts { size, flags },
@@ -392,7 +392,7 @@ fn answer_info(read: Result<Info, KvError>) -> Reply
 
 // The reply of a call whose record was written like this.
 fn answer_write(written: Result<(), KvError>) -> Reply
-    ensures { OnOk written (result ≡ Reply.Done) }
+    ensures { MatchResult written (λ _. result ≡ Reply.Done) (λ error. result ≡ Reply.Refused error) }
 {
     match written {
         Ok(()) => Reply::Done,
