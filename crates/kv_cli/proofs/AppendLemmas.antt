@@ -77,18 +77,16 @@ applied_plain m key stored plain =
     sym (ap (λ (removes : Bool). if removes then map.remove m key else map.insert m key stored) (ne_eqb stored.flags remove_flags (λ same. omega arith)))
 
 -- a log goes on by a record that was written at its end
-log_after : (g : Geometry) → 1 ≤ g.prog → (old new : List ℕ) (end : ℕ) (r : Write) (m primary : FlaggedMap) → 2 * area_size g ≤ length old → end + extent g.prog r ≤ area_size g
-    → Torn end (extent g.prog r) old new → IsRecordAt g.prog new end r → primary ≡ applied r m → IsLogOf g old end m → IsLogOf g new (end + extent g.prog r) primary
-log_after g positive old new end r m primary sized fits torn stands is log =
-    let begin = AreRecords-forward g.prog positive old (master_size g.prog) end log.records log.each in
+log_after : (g : Geometry) → 1 ≤ g.prog → (old new : List ℕ) (end : ℕ) (r : Write) (records : List Write) → 2 * area_size g ≤ length old → end + extent g.prog r ≤ area_size g
+    → Torn end (extent g.prog r) old new → IsRecordAt g.prog new end r → IsLogOf g old end records → IsLogOf g new (end + extent g.prog r) (records ++ r ∷ [])
+log_after g positive old new end r records sized fits torn stands log =
+    let begin = AreRecords-forward g.prog positive old (master_size g.prog) end records log.each in
     let master : part new 0 (master_size g.prog) ≡ part old 0 (master_size g.prog) =
     part-Torn end (extent g.prog r) old new 0 (master_size g.prog) torn (inl (omega (arith, begin))) (omega (arith, begin, fits, sized)) in
     record {
       master = subst (IsMaster g.prog 1) (sym master) log.master;
-      records = log.records ++ r ∷ [];
-      each = AreRecords-append g.prog new (master_size g.prog) end (end + extent g.prog r) log.records (r ∷ [])
-          (AreRecords-Torn g.prog positive end (extent g.prog r) old new (master_size g.prog) end log.records torn (inl (omega arith)) log.each) (stands, refl);
-      map_is = is ∙ ap (applied r) log.map_is ∙ sym (map_of-append log.records r);
+      each = AreRecords-append g.prog new (master_size g.prog) end (end + extent g.prog r) records (r ∷ [])
+          (AreRecords-Torn g.prog positive end (extent g.prog r) old new (master_size g.prog) end records torn (inl (omega arith)) log.each) (stands, refl);
       spare = IsErased-Torn end (extent g.prog r) old new (area_size g) (area_size g) torn (inr (omega (arith, fits))) log.spare;
     }
 
@@ -150,18 +148,19 @@ module _ (old new : FlashState) (end : ℕ) (places : Places) (r : Write) (devic
   module _ (later : Places) (entry : Option ℕ) (gives : Option Stored) (linked_now : IsLinked prog (image_of new) (end + n) r.key entry gives)
       (updated : (other : List ℕ) → place_of later other ≡ cond (is_eq (slice_cmp nat_cmp r.key other)) entry (place_of places other))
       (valid_key : IsTrue (is_key r.key)) (valid_header : IsHeader r.flags (length r.key) (length r.value)) (fits : end + n ≤ area_size old.geometry)
-      (state : StoreState) (primary : FlaggedMap) (is : primary ≡ applied r state.primary) (changed : (other : List ℕ) → map.get primary other ≡ cond (is_eq (slice_cmp nat_cmp r.key other)) gives (map.get state.primary other)) where
-    linked : StandsFor old end places state → (other : List ℕ) → IsLinked prog (image_of new) (end + n) other (place_of later other) (map.get primary other)
+      (records : List Write) (state : StoreState) (primary : FlaggedMap) (is : primary ≡ applied r state.primary) (changed : (other : List ℕ) → map.get primary other ≡ cond (is_eq (slice_cmp nat_cmp r.key other)) gives (map.get state.primary other)) where
+    linked : StandsFor old end places records state → (other : List ℕ) → IsLinked prog (image_of new) (end + n) other (place_of later other) (map.get primary other)
     linked stands other =
         subst (λ (place : Option ℕ). IsLinked prog (image_of new) (end + n) other place (map.get primary other)) (sym (updated other))
         (subst (λ (there : Option Stored). IsLinked prog (image_of new) (end + n) other (cond (is_eq (slice_cmp nat_cmp r.key other)) entry (place_of places other)) there) (sym (changed other))
         (linked_after prog positive (image_of old) (image_of new) end n torn r.key other entry gives linked_now _ refl (place_of places other) (map.get state.primary other) (stands.linked other)))
 
-    pub stands_after : StandsFor old end places state → StandsFor new (end + n) later (record state { spent = state.spent + n; primary = primary })
+    pub stands_after : StandsFor old end places records state → StandsFor new (end + n) later (records ++ r ∷ []) (record state { spent = state.spent + n; primary = primary })
     stands_after stands = record {
       linked = λ other. subst (λ (g : Geometry). IsLinked g.prog (image_of new) (end + n) other (place_of later other) (map.get primary other)) (sym written.kept.geometry) (linked stands other);
-      log = subst (λ (g : Geometry). IsLogOf g (image_of new) (end + n) primary) (sym written.kept.geometry)
-          (log_after old.geometry positive (image_of old) (image_of new) end r state.primary primary (omega (arith, device.sized, size-areas old.geometry)) fits torn (record_stands valid_key valid_header) is stands.log);
+      log = subst (λ (g : Geometry). IsLogOf g (image_of new) (end + n) (records ++ r ∷ [])) (sym written.kept.geometry)
+          (log_after old.geometry positive (image_of old) (image_of new) end r records (omega (arith, device.sized, size-areas old.geometry)) fits torn (record_stands valid_key valid_header) stands.log);
+      map_is = is ∙ ap (applied r) stands.map_is ∙ sym (map_of-append records r);
       spent = omega (arith, stands.spent, ap (λ (g : Geometry). master_size g.prog) written.kept.geometry);
       running = stands.running;
       no_set = stands.no_set;
@@ -171,15 +170,16 @@ module _ (old new : FlashState) (end : ℕ) (places : Places) (r : Write) (devic
 module _ (old new : FlashState) (end : ℕ) (places later : Places) (key : List ℕ) (valid_key : IsTrue (is_key key)) (device : IsTold old) where
   pub set_after : (stored : Stored) → stored.flags < 2 → end + record_size old.geometry.prog (length key) (length stored.bytes) ≤ area_size old.geometry → IsHeader stored.flags (length key) (length stored.bytes) → HasWritten old new end (record_bytes old.geometry.prog stored.flags key stored.bytes)
       → ((other : List ℕ) → place_of later other ≡ cond (is_eq (slice_cmp nat_cmp key other)) (Some end) (place_of places other))
-      → (state : StoreState) → StandsFor old end places state → StandsFor new (end + record_size old.geometry.prog (length key) (length stored.bytes)) later (with_record old.geometry.prog state key stored)
-  set_after stored plain fits valid_header written updated state stands =
+      → (records : List Write) (state : StoreState) → StandsFor old end places records state → StandsFor new (end + record_size old.geometry.prog (length key) (length stored.bytes)) later (records ++ record_of key stored ∷ []) (with_record old.geometry.prog state key stored)
+  set_after stored plain fits valid_header written updated records state stands =
       let r = record_of key stored in
       let kept : IsKept old.geometry.prog (image_of new) (end + record_size old.geometry.prog (length key) (length stored.bytes)) end key stored =
       record { stands = record_stands old new end places r device written valid_key valid_header; inside = omega arith } in
-      stands_after old new end places r device written later (Some end) (Some stored) kept updated valid_key valid_header fits state (map.insert state.primary key stored) (applied_plain state.primary key stored plain) (λ other. get_after state.primary key other stored) stands
+      stands_after old new end places r device written later (Some end) (Some stored) kept updated valid_key valid_header fits records state (map.insert state.primary key stored) (applied_plain state.primary key stored plain) (λ other. get_after state.primary key other stored) stands
 
   pub removed_after : end + record_size old.geometry.prog (length key) 0 ≤ area_size old.geometry → IsHeader remove_flags (length key) 0 → HasWritten old new end (record_bytes old.geometry.prog remove_flags key [])
       → ((other : List ℕ) → place_of later other ≡ cond (is_eq (slice_cmp nat_cmp key other)) None (place_of places other))
-      → (state : StoreState) → StandsFor old end places state → StandsFor new (end + record_size old.geometry.prog (length key) 0) later (without_record old.geometry.prog state key)
-  removed_after fits valid_header written updated state stands =
-      stands_after old new end places (record { flags = remove_flags; key = key; value = [] }) device written later None None tt updated valid_key valid_header fits state (map.remove state.primary key) refl (λ other. get_without state.primary key other) stands
+      → (records : List Write) (state : StoreState) → StandsFor old end places records state
+      → StandsFor new (end + record_size old.geometry.prog (length key) 0) later (records ++ record { flags = remove_flags; key = key; value = [] } ∷ []) (without_record old.geometry.prog state key)
+  removed_after fits valid_header written updated records state stands =
+      stands_after old new end places (record { flags = remove_flags; key = key; value = [] }) device written later None None tt updated valid_key valid_header fits records state (map.remove state.primary key) refl (λ other. get_without state.primary key other) stands

@@ -63,20 +63,19 @@ module _ (old new : FlashState) (device : IsTold old) (erased : IsErased (image_
     work_size = work_size;
   }
 
-  log : IsLogOf old.geometry (image_of new) end empty
+  log : IsLogOf old.geometry (image_of new) end []
   log = record {
     master = record { in_range = omega arith; spelling = ap (part (image_of new) 0) (sym long) ∙ written.bytes_are };
-    records = [];
     each = sym begins;
-    map_is = refl;
     spare = stays (area_size old.geometry) (area_size old.geometry) inside (omega (arith, size-areas old.geometry));
   }
 
-  pub fresh_stands : (vector : ℕ) → StandsFor new end places (fresh_state empty empty vector 0)
+  pub fresh_stands : (vector : ℕ) → StandsFor new end places [] (fresh_state empty empty vector 0)
   fresh_stands vector = record {
     linked = λ key. subst (λ (l : Places). IsLinked new.geometry.prog (image_of new) end key (place_of l key) (get no_keys key)) (sym none)
         (subst (λ (there : Option Stored). IsLinked new.geometry.prog (image_of new) end key None there) (sym (get-empty (slice_cmp nat_cmp) key)) tt);
-    log = subst (λ (g : Geometry). IsLogOf g (image_of new) end empty) (sym written.kept.geometry) log;
+    log = subst (λ (g : Geometry). IsLogOf g (image_of new) end []) (sym written.kept.geometry) log;
+    map_is = refl;
     spent = omega (arith, begins, ap (λ (g : Geometry). master_size g.prog) written.kept.geometry);
     running = refl;
     no_set = refl;

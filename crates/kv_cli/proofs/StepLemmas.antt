@@ -53,7 +53,7 @@ module _ (constants : Constants) (state : StoreState) (who : ℕ) (running : sta
         → plain_step constants state who (Part key offset count) ≡ record { state = state; reply = reply.Value (take count (drop offset stored.bytes)) }
     part_present stored valid present fits = simp (running, valid, present, fits)
 
-abbrev refusal : StoreState → KvError → Outcome
+abbrev pub refusal : StoreState → KvError → Outcome
 refusal state error = record { state = state; reply = reply.Refused error }
 
 module _ (constants : Constants) (state : StoreState) (who : ℕ) (running : state.doubt ≡ None) (no_set : state.open_set ≡ None) (key value : List ℕ) (flags : ℕ) where

@@ -16,6 +16,9 @@ use Rattle.flash_core.specs.State.{FlashState}
 use Rattle.flash_core.specs.Up.{IsMultipleOf}
 use Rattle.kv_model.specs.FlaggedMap.{Stored}
 use Rattle.kv_model.specs.Flags.{remove_flags}
+use Rattle.kv_model.specs.History.{Write}
+use Rattle.kv_model.specs.Operations.{Operation}
+use Rattle.kv_model.specs.PlainStep.{Constants, Outcome, plain_step}
 use Rattle.kv_model.specs.StoreState.{StoreState}
 use Rattle.std.specs.Prelude.{IsTrue, is_none, nat_lt, if◌then◌else◌}
 use Rattle.std.proofs.lemmas.Bool.{cases_eq, cases_lt}
@@ -24,7 +27,7 @@ use Rattle.kv_model.specs.Keys.{is_key, is_prefix}
 use Rattle.record_core.specs.Header.{IsHeader}
 use Rattle.kv_model.specs.Sizes.{master_size}
 use Rattle.kv_cli.specs.Writing.{image_of, IsTold}
-use Rattle.kv_cli.specs.LogStore.{Places, place_of, IsReady, IsKept, IsLinked, IsLogOf, StandsFor}
+use Rattle.kv_cli.specs.LogStore.{Places, place_of, IsReady, IsKept, IsLinked, IsLogOf, StandsFor, HasStepped, grown}
 
 module _ {old new : FlashState} (reads : OnlyReads old new) where
   pub same_image : image_of new ≡ image_of old
@@ -50,15 +53,31 @@ module _ {old new : FlashState} (reads : OnlyReads old new) where
     work_size = ready.work_size;
   }
 
-  pub StandsFor-read : {end : ℕ} {places : Places} {state : StoreState} → StandsFor old end places state → StandsFor new end places state
-  StandsFor-read {end} {places} {state} stands = record {
+  pub StandsFor-read : {end : ℕ} {places : Places} {records : List Write} {state : StoreState} → StandsFor old end places records state → StandsFor new end places records state
+  StandsFor-read {end} {places} {records} {state} stands = record {
     linked = λ key. subst (λ (g : Geometry). IsLinked g.prog (image_of new) end key (place_of places key) (map.get state.primary key)) (sym reads.geometry)
         (subst (λ (image : List ℕ). IsLinked old.geometry.prog image end key (place_of places key) (map.get state.primary key)) (sym same_image) (stands.linked key));
-    log = subst (λ (g : Geometry). IsLogOf g (image_of new) end state.primary) (sym reads.geometry) (subst (λ (image : List ℕ). IsLogOf old.geometry image end state.primary) (sym same_image) stands.log);
+    log = subst (λ (g : Geometry). IsLogOf g (image_of new) end records) (sym reads.geometry) (subst (λ (image : List ℕ). IsLogOf old.geometry image end records) (sym same_image) stands.log);
+    map_is = stands.map_is;
     spent = stands.spent ∙ ap (λ (g : Geometry). master_size g.prog + state.spent) (sym reads.geometry);
     running = stands.running;
     no_set = stands.no_set;
   }
+
+  pub StandsFor-kept : {end later : ℕ} {places others : Places} {records : List Write} {state : StoreState} → later ≡ end → others ≡ places
+      → StandsFor old end places records state → StandsFor new later others records state
+  StandsFor-kept {end} {later} {places} {others} {records} {state} same_end same_places stands =
+      subst (λ (ps : Places). StandsFor new later ps records state) (sym same_places)
+      (subst (λ (e : ℕ). StandsFor new e places records state) (sym same_end) (StandsFor-read stands))
+
+-- a call that is known as a step, and what the image stands for by it
+pub stepped : {s : FlashState} {end : ℕ} {places : Places} (constants : Constants) (records : List Write) (state : StoreState) (who : ℕ) (operation : Operation) (reply : Reply) (outcome : Outcome)
+    → plain_step constants state who operation ≡ outcome → reply ≡ outcome.reply → StandsFor s end places (grown records operation outcome.reply) outcome.state
+    → HasStepped constants records state who operation reply s end places
+stepped {s} {end} {places} constants records state who operation reply outcome step replies stands = record {
+  reply_is = replies ∙ sym (ap (λ (o : Outcome). o.reply) step);
+  stands = subst (λ (o : Outcome). StandsFor s end places (grown records operation o.reply) o.state) (sym step) stands;
+}
 
 -- a key without a place is not in the map
 pub unlinked : (prog : ℕ) (image : List ℕ) (end : ℕ) (key : List ℕ) (there : Option Stored) → IsLinked prog image end key None there → there ≡ None
@@ -139,6 +158,12 @@ plain_header flags key_size value_size plain least most value_most = record {
 abbrev pub passed : Result Unit KvError
 passed = Ok tt
 
+abbrev pub refused_as : KvError → Result Unit KvError
+refused_as error = Err error
+
+same_error : (one other : KvError) → refused_as one ≡ refused_as other → one ≡ other
+same_error one other same = cc
+
 -- a header of a remove
 pub remove_header : (key_size : ℕ) → 1 ≤ key_size → key_size ≤ 128 → IsHeader remove_flags key_size 0
 remove_header key_size least most = record {
@@ -154,6 +179,13 @@ pub found_nothing : (protected full : Bool) (first second : KvError) → passed 
 found_nothing true full first second same = absurd (cc)
 found_nothing false true first second same = absurd (cc)
 found_nothing false false first second same = (refl, refl)
+
+-- a check that did not pass found one of the two
+pub found_one : (protected full : Bool) (first second error : KvError) (P : KvError → Type 0) → refused_as error ≡ (if protected then Err first else if full then Err second else Ok tt)
+    → (protected ≡ true → P first) → (protected ≡ false → full ≡ true → P second) → P error
+found_one true full first second error P same is_first is_second = subst P (sym (same_error error first same)) (is_first refl)
+found_one false true first second error P same is_first is_second = subst P (sym (same_error error second same)) (is_second refl refl)
+found_one false false first second error P same is_first is_second = absurd (cc)
 
 -- what a call did that answers done or finds no memory
 pub done_or_none : (result : Result Reply NoMemory) (Q : Type 0) (P : Reply → Type 0) → IfOk result (λ reply. reply ≡ Done) → OnOk result Q → (Q → P Done) → IfOk result P

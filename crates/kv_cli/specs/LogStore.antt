@@ -1,5 +1,5 @@
 -- How the image of a device stands for the map of a store: for each key, its last record.
-use Rattle.std.specs.Prelude.{◌≡◌, ℕ, ◌+◌, ◌-◌, ◌≤◌, List, length, Option, Some, None, Result, Ok, Err, IfSome, MatchOption, nat_lt, if◌then◌else◌}
+use Rattle.std.specs.Prelude.{◌≡◌, ℕ, ◌+◌, ◌-◌, ◌≤◌, List, [], ◌∷◌, ◌++◌, length, Option, Some, None, Result, Ok, Err, IfSome, MatchOption, nat_lt, if◌then◌else◌}
 use Rattle.std.specs.Ordering.{nat_cmp, is_eq}
 use Rattle.std.specs.Cmp.Lexicographic.{slice_cmp}
 use Rattle.std.specs.Map.{lookup}
@@ -10,16 +10,17 @@ use Rattle.flash_core.specs.Images.{part, IsErased}
 use Rattle.flash_core.specs.Sizes.{area_size}
 use Rattle.flash_core.specs.State.{FlashState}
 use Rattle.flash_core.specs.Up.{IsMultipleOf}
-use Rattle.kv_model.specs.FlaggedMap.{Stored, FlaggedMap}
+use Rattle.kv_model.specs.FlaggedMap.{Stored}
 use Rattle.kv_model.specs.Sizes.{master_size, record_size, room_of}
 use Rattle.kv_model.specs.StoreState.{StoreState}
 use Rattle.kv_model.specs.PlainStep.{Constants, plain_step}
-use Rattle.kv_model.specs.Operations.{Operation, operation_of}
+use Rattle.kv_model.specs.Operations.{Operation, Set, Remove, operation_of}
 use Rattle.kv_model.specs.declared.call.Call.{Call}
 use Rattle.kv_model.specs.declared.call.Reply.{Reply}
+use Rattle.kv_model.specs.declared.call.Reply.TheVariants.{Done}
 use Rattle.kv_model.specs.declared.error.KvError.{KvError}
 use Rattle.kv_model.specs.declared.error.KvError.TheVariants.{WriteProtected, MediaFull}
-use Rattle.kv_model.specs.Flags.{is_write_once}
+use Rattle.kv_model.specs.Flags.{is_write_once, remove_flags}
 use Rattle.kv_model.specs.History.{Write}
 use Rattle.record_core.specs.Record.{IsMaster}
 use Rattle.record_core.specs.Log.{IsRecordAt, AreRecords, extent, map_of}
@@ -58,19 +59,17 @@ IsLinked prog image end key (Some place) (Some stored) = IsKept prog image end p
 IsLinked prog image end key None (Some stored) = ⊥
 IsLinked prog image end key (Some place) None = ⊥
 
--- Area 0 begins with a master record of version 1, records stand behind it up to the end, and the last of them for each
--- key decides what the map has there; area 1 is erased.
-pub record IsLogOf (g : Geometry) (image : List ℕ) (end : ℕ) (map : FlaggedMap) : Type 0 where
+-- Area 0 begins with a master record of version 1, and these records stand behind it up to the end; area 1 is erased.
+pub record IsLogOf (g : Geometry) (image : List ℕ) (end : ℕ) (records : List Write) : Type 0 where
   pub master : IsMaster g.prog 1 (part image 0 (master_size g.prog))
-  pub records : List Write
   pub each : AreRecords g.prog image (master_size g.prog) end records
-  pub map_is : map ≡ map_of records
   pub spare : IsErased image (area_size g) (area_size g)
 
--- The records in the image stand for the map of the state, which is running and has no set.
-pub record StandsFor (s : FlashState) (end : ℕ) (places : Places) (state : StoreState) : Type 0 where
+-- The image has these records, which stand for the map of the state; it is running and has no set.
+pub record StandsFor (s : FlashState) (end : ℕ) (places : Places) (records : List Write) (state : StoreState) : Type 0 where
   pub linked : (key : List ℕ) → IsLinked s.geometry.prog (image_of s) end key (place_of places key) (map.get state.primary key)
-  pub log : IsLogOf s.geometry (image_of s) end state.primary
+  pub log : IsLogOf s.geometry (image_of s) end records
+  pub map_is : state.primary ≡ map_of records
   pub spent : end ≡ master_size s.geometry.prog + state.spent
   pub running : state.doubt ≡ None
   pub no_set : state.open_set ≡ None
@@ -106,13 +105,19 @@ RoomCheck constants state key size result =
     else if nat_lt constants.room need then Err (MediaFull need constants.room)
     else Ok tt)
 
+-- the records once a call was answered: a set or a remove that is done appends one
+abbrev pub grown : List Write → Operation → Reply → List Write
+grown records (Set key value flags) Done = records ++ record { flags = flags; key = key; value = value } ∷ []
+grown records (Remove key) Done = records ++ record { flags = remove_flags; key = key; value = [] } ∷ []
+grown records operation reply = records
+
 -- The call was a step of the plain store, and what the image stands for now is the state after it.
-pub record HasStepped (constants : Constants) (state : StoreState) (who : ℕ) (operation : Operation) (reply : Reply)
+pub record HasStepped (constants : Constants) (records : List Write) (state : StoreState) (who : ℕ) (operation : Operation) (reply : Reply)
     (s : FlashState) (end : ℕ) (places : Places) : Type 0 where
   pub reply_is : reply ≡ (plain_step constants state who operation).reply
-  pub stands : StandsFor s end places (plain_step constants state who operation).state
+  pub stands : StandsFor s end places (grown records operation (plain_step constants state who operation).reply) (plain_step constants state who operation).state
 
 -- the same of a call as a client made it, which is no mount
-abbrev pub CallHasStepped : Constants → StoreState → ℕ → Call → Reply → FlashState → ℕ → Places → Type 0
-CallHasStepped constants state who call reply s end places =
-    MatchOption (operation_of call) ⊥ (λ operation. HasStepped constants state who operation reply s end places)
+abbrev pub CallHasStepped : Constants → List Write → StoreState → ℕ → Call → Reply → FlashState → ℕ → Places → Type 0
+CallHasStepped constants records state who call reply s end places =
+    MatchOption (operation_of call) ⊥ (λ operation. HasStepped constants records state who operation reply s end places)

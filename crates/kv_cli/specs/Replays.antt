@@ -1,5 +1,5 @@
 -- What a replay of a script is: a legal history from the empty store, of the calls of its lines in order.
-use Rattle.std.specs.Prelude.{◌≡◌, ℕ, List, [], ◌∷◌, length, map, All}
+use Rattle.std.specs.Prelude.{◌≡◌, ℕ, List, [], ◌∷◌, length, map, All, Some, None}
 use Rattle.std.specs.List.{flat_map}
 use Rattle.std.specs.FinMap.{empty}
 use Rattle.flash_core.specs.declared.geometry.Geometry.{Geometry}
@@ -11,8 +11,8 @@ use Rattle.kv_model.specs.declared.call.Reply.TheVariants.{Refused}
 use Rattle.kv_model.specs.declared.error.KvError.TheVariants as error
 use Rattle.kv_model.specs.StoreState.{StoreState, fresh_state}
 use Rattle.kv_model.specs.PlainStep.{Constants}
-use Rattle.kv_model.specs.History.{IsLegal, plain_rules}
-use Rattle.record_core.specs.Mounts.{Mounts}
+use Rattle.kv_model.specs.History.{IsLegal, Write, writes, plain_rules}
+use Rattle.record_core.specs.Mounts.{Holds, Mounts}
 use Rattle.script_core.specs.declared.line.Act.{Act}
 use Rattle.script_core.specs.declared.line.Act.TheVariants.{Do, Cut}
 use Rattle.script_core.specs.declared.line.Line.{Line}
@@ -50,11 +50,17 @@ IsFaultless (Refused (error.Corrupt stored computed)) = ⊥
 IsFaultless (Refused error.Memory) = ⊥
 IsFaultless reply = Unit {0}
 
--- Each call is that of a line, in order, and follows from those before it; the image mounts to the map that they leave.
+-- the image holds these records behind a master record of version 1 in area 0, and nothing else
+abbrev pub HasLogOf : List ℕ → List Write → Type 0
+HasLogOf image records = (end : ℕ) × Holds run_geometry image (record { first = Some 1; second = None; records = records; end = end })
+
+-- Each call is that of a line, in order, and follows from those before it; the image holds the records that they write,
+-- in order, and mounts to the map that they leave.
 pub record IsReplayOf (lines : List Line) (entries : List Entry) (image : List ℕ) : Type 0 where
   pub last : StoreState
   pub legal : IsLegal (plain_rules run_constants) first_state entries last
   pub in_order : map called entries ≡ flat_map asked lines
   pub faultless : All (λ (entry : Entry). IsFaultless entry.reply) entries
   pub sized : length image ≡ image_size
+  pub log : HasLogOf image (writes None entries)
   pub mounts : (map : FlaggedMap) × Mounts run_geometry image map × (map ≡ last.primary)

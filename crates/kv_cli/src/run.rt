@@ -1,5 +1,6 @@
 // Replays the lines of a script over an erased device.
-ghost use Rattle.std.specs.Prelude.{◌≡◌, ◌<◌, ◌≤◌, length, All, IfOk};
+ghost use Rattle.std.specs.Prelude.{◌≡◌, List, [], ◌<◌, ◌≤◌, length, All, IfOk};
+ghost use Rattle.kv_model.specs.History.{Write};
 ghost use Rattle.kv_model.specs.Sizes.{room_of};
 ghost use Rattle.kv_model.specs.StoreState.{StoreState};
 ghost use Rattle.kv_cli.specs.Images.{IsErasedImage};
@@ -41,8 +42,8 @@ fn run_line<F: Flash>(
     requires numbers { length journal.old.entries < 8192 }
     ensures ready { IsReady (F.state store.new.flash) store.new.end store.new.places.entries store.new.work.items }
     ensures geometry { (F.state store.new.flash).geometry ≡ (F.state store.old.flash).geometry }
-    ensures gone_on { (state : StoreState) → StandsFor (F.state store.old.flash) store.old.end store.old.places.entries state
-        → IfOk result (λ _. HasGoneOn state line.now journal.old.entries journal.new.entries (F.state store.new.flash) store.new.end store.new.places.entries) }
+    ensures gone_on { (records : List Write) (state : StoreState) → StandsFor (F.state store.old.flash) store.old.end store.old.places.entries records state
+        → IfOk result (λ _. HasGoneOn records state line.now journal.old.entries journal.new.entries (F.state store.new.flash) store.new.end store.new.places.entries) }
 {
     let Act::Do { call } = &line.act else {
         unreachable!()
@@ -62,7 +63,7 @@ fn run_lines<F: Flash>(
 ) -> Result<Journal, NoMemory>
     requires ready { IsReady (F.state store.old.flash) store.old.end store.old.places.entries store.old.work.items }
     requires over { IsOver (F.state store.old.flash).geometry run_constants }
-    requires stands { StandsFor (F.state store.old.flash) store.old.end store.old.places.entries first_state }
+    requires stands { StandsFor (F.state store.old.flash) store.old.end store.old.places.entries [] first_state }
     requires early { All IsEarly lines.now }
     requires count { length lines.now ≤ 8192 }
     ensures ready { IfOk result (λ _. IsReady (F.state store.new.flash) store.new.end store.new.places.entries store.new.work.items) }

@@ -1,5 +1,5 @@
 // The store behind a replay: a log of records in the first area, and the place of the last record of each key.
-ghost use Rattle.std.specs.Prelude.{◌≡◌, ◌+◌, ◌-◌, ◌<◌, ◌≤◌, ℕ, length, take, drop, Ok, Err, IfOk, IfErr, IsOk, IsErr, OnOk, MatchResult, Option, None, IsTrue};
+ghost use Rattle.std.specs.Prelude.{◌≡◌, ◌+◌, ◌-◌, ◌<◌, ◌≤◌, ℕ, List, [], ◌∷◌, ◌++◌, length, take, drop, Ok, Err, IfOk, IfErr, IsOk, IsErr, OnOk, MatchResult, Option, None, IsTrue};
 ghost use Rattle.std.specs.Option.{option_map_or};
 ghost use Rattle.std.specs.FinMap.{empty, get};
 ghost use Rattle.flash_core.specs.Calls.{OnlyReads};
@@ -7,6 +7,7 @@ ghost use Rattle.flash_core.specs.Images.{IsErased};
 ghost use Rattle.flash_core.specs.Sizes.{area_size, size_of};
 ghost use Rattle.kv_model.specs.FlaggedMap.{Stored};
 ghost use Rattle.kv_model.specs.Flags.{remove_flags};
+ghost use Rattle.kv_model.specs.History.{Write};
 ghost use Rattle.kv_model.specs.Keys.{is_key};
 ghost use Rattle.kv_model.specs.Sizes.{master_size, record_size};
 ghost use Rattle.kv_model.specs.StoreState.{StoreState, fresh_state};
@@ -75,7 +76,7 @@ impl<F: Flash> LogStore<F> {
         requires erased { IsErased (image_of (F.state flash)) 0 (size_of (F.state flash).geometry) }
         ensures geometry { IfOk result (λ store. (F.state store.flash).geometry ≡ (F.state flash).geometry) }
         ensures ready { IfOk result (λ store. IsReady (F.state store.flash) store.end store.places.entries store.work.items) }
-        ensures stands { IfOk result (λ store. (vector : ℕ) → StandsFor (F.state store.flash) store.end store.places.entries (fresh_state empty empty vector 0)) }
+        ensures stands { IfOk result (λ store. (vector : ℕ) → StandsFor (F.state store.flash) store.end store.places.entries [] (fresh_state empty empty vector 0)) }
         ensures only { IfErr result (λ error. error ≡ KvError.Memory) }
     {
         let geometry = flash.geometry();
@@ -102,9 +103,9 @@ impl<F: Flash> LogStore<F> {
         requires early { IsEarlyAct (Act.Do call.now) }
         ensures ready { IsReady (F.state self.new.flash) self.new.end self.new.places.entries self.new.work.items }
         ensures geometry { (F.state self.new.flash).geometry ≡ (F.state self.old.flash).geometry }
-        ensures step { (constants : Constants) (state : StoreState) (who : ℕ) → IsOver (F.state self.old.flash).geometry constants
-            → StandsFor (F.state self.old.flash) self.old.end self.old.places.entries state
-            → IfOk result (λ reply. CallHasStepped constants state who call.now reply (F.state self.new.flash) self.new.end self.new.places.entries) }
+        ensures step { (constants : Constants) (records : List Write) (state : StoreState) (who : ℕ) → IsOver (F.state self.old.flash).geometry constants
+            → StandsFor (F.state self.old.flash) self.old.end self.old.places.entries records state
+            → IfOk result (λ reply. CallHasStepped constants records state who call.now reply (F.state self.new.flash) self.new.end self.new.places.entries) }
     {
         match call {
             Call::Get { key } => Ok(self.get(alloc, key.as_slice())?),
@@ -125,9 +126,9 @@ impl<F: Flash> LogStore<F> {
         requires { IsReady (F.state self.old.flash) self.old.end self.old.places.entries self.old.work.items }
         ensures ready { IsReady (F.state self.new.flash) self.new.end self.new.places.entries self.new.work.items }
         ensures geometry { (F.state self.new.flash).geometry ≡ (F.state self.old.flash).geometry }
-        ensures step { (constants : Constants) (state : StoreState) (who : ℕ) → IsOver (F.state self.old.flash).geometry constants
-            → StandsFor (F.state self.old.flash) self.old.end self.old.places.entries state
-            → IfOk result (λ reply. HasStepped constants state who (Get bytes.now) reply (F.state self.new.flash) self.new.end self.new.places.entries) }
+        ensures step { (constants : Constants) (records : List Write) (state : StoreState) (who : ℕ) → IsOver (F.state self.old.flash).geometry constants
+            → StandsFor (F.state self.old.flash) self.old.end self.old.places.entries records state
+            → IfOk result (λ reply. HasStepped constants records state who (Get bytes.now) reply (F.state self.new.flash) self.new.end self.new.places.entries) }
     {
         let Ok(key) = Key::new(bytes) else {
             return Ok(refused(KvError::InvalidKey));
@@ -149,9 +150,9 @@ impl<F: Flash> LogStore<F> {
         requires { IsReady (F.state self.old.flash) self.old.end self.old.places.entries self.old.work.items }
         ensures ready { IsReady (F.state self.new.flash) self.new.end self.new.places.entries self.new.work.items }
         ensures geometry { (F.state self.new.flash).geometry ≡ (F.state self.old.flash).geometry }
-        ensures step { (constants : Constants) (state : StoreState) (who : ℕ) → IsOver (F.state self.old.flash).geometry constants
-            → StandsFor (F.state self.old.flash) self.old.end self.old.places.entries state
-            → IfOk result (λ reply. HasStepped constants state who (Part bytes.now offset count) reply (F.state self.new.flash) self.new.end self.new.places.entries) }
+        ensures step { (constants : Constants) (records : List Write) (state : StoreState) (who : ℕ) → IsOver (F.state self.old.flash).geometry constants
+            → StandsFor (F.state self.old.flash) self.old.end self.old.places.entries records state
+            → IfOk result (λ reply. HasStepped constants records state who (Part bytes.now offset count) reply (F.state self.new.flash) self.new.end self.new.places.entries) }
     {
         let Ok(key) = Key::new(bytes) else {
             return Ok(refused(KvError::InvalidKey));
@@ -170,9 +171,9 @@ impl<F: Flash> LogStore<F> {
         requires { IsReady (F.state self.old.flash) self.old.end self.old.places.entries self.old.work.items }
         ensures ready { IsReady (F.state self.new.flash) self.new.end self.new.places.entries self.new.work.items }
         ensures geometry { (F.state self.new.flash).geometry ≡ (F.state self.old.flash).geometry }
-        ensures step { (constants : Constants) (state : StoreState) (who : ℕ) → IsOver (F.state self.old.flash).geometry constants
-            → StandsFor (F.state self.old.flash) self.old.end self.old.places.entries state
-            → HasStepped constants state who (InfoOf bytes.now) result (F.state self.new.flash) self.new.end self.new.places.entries }
+        ensures step { (constants : Constants) (records : List Write) (state : StoreState) (who : ℕ) → IsOver (F.state self.old.flash).geometry constants
+            → StandsFor (F.state self.old.flash) self.old.end self.old.places.entries records state
+            → HasStepped constants records state who (InfoOf bytes.now) result (F.state self.new.flash) self.new.end self.new.places.entries }
     {
         let Ok(key) = Key::new(bytes) else {
             return refused(KvError::InvalidKey);
@@ -188,9 +189,9 @@ impl<F: Flash> LogStore<F> {
         requires { IsReady (F.state self.old.flash) self.old.end self.old.places.entries self.old.work.items }
         ensures ready { IsReady (F.state self.new.flash) self.new.end self.new.places.entries self.new.work.items }
         ensures geometry { (F.state self.new.flash).geometry ≡ (F.state self.old.flash).geometry }
-        ensures step { (constants : Constants) (state : StoreState) (who : ℕ) → IsOver (F.state self.old.flash).geometry constants
-            → StandsFor (F.state self.old.flash) self.old.end self.old.places.entries state
-            → IfOk result (λ reply. HasStepped constants state who (Set bytes.now value.now flags.bits) reply (F.state self.new.flash) self.new.end self.new.places.entries) }
+        ensures step { (constants : Constants) (records : List Write) (state : StoreState) (who : ℕ) → IsOver (F.state self.old.flash).geometry constants
+            → StandsFor (F.state self.old.flash) self.old.end self.old.places.entries records state
+            → IfOk result (λ reply. HasStepped constants records state who (Set bytes.now value.now flags.bits) reply (F.state self.new.flash) self.new.end self.new.places.entries) }
     {
         let Ok(key) = Key::new(bytes) else {
             return Ok(refused(KvError::InvalidKey));
@@ -216,8 +217,8 @@ impl<F: Flash> LogStore<F> {
         ensures end { self.new.end ≡ self.old.end }
         ensures places { self.new.places.entries ≡ self.old.places.entries }
         ensures fits { OnOk result (self.old.end + record_size (F.state self.old.flash).geometry.prog (length key.now) size ≤ area_size (F.state self.old.flash).geometry) }
-        ensures cause { (constants : Constants) (state : StoreState) → IsOver (F.state self.old.flash).geometry constants
-            → StandsFor (F.state self.old.flash) self.old.end self.old.places.entries state → RoomCheck constants state key.now size result }
+        ensures cause { (constants : Constants) (records : List Write) (state : StoreState) → IsOver (F.state self.old.flash).geometry constants
+            → StandsFor (F.state self.old.flash) self.old.end self.old.places.entries records state → RoomCheck constants state key.now size result }
     {
         if self.flags_under(key)? % 2 == 1 {
             return Err(KvError::WriteProtected);
@@ -238,9 +239,9 @@ impl<F: Flash> LogStore<F> {
         requires { IsReady (F.state self.old.flash) self.old.end self.old.places.entries self.old.work.items }
         ensures ready { IsReady (F.state self.new.flash) self.new.end self.new.places.entries self.new.work.items }
         ensures geometry { (F.state self.new.flash).geometry ≡ (F.state self.old.flash).geometry }
-        ensures step { (constants : Constants) (state : StoreState) (who : ℕ) → IsOver (F.state self.old.flash).geometry constants
-            → StandsFor (F.state self.old.flash) self.old.end self.old.places.entries state
-            → HasStepped constants state who (Remove bytes.now) result (F.state self.new.flash) self.new.end self.new.places.entries }
+        ensures step { (constants : Constants) (records : List Write) (state : StoreState) (who : ℕ) → IsOver (F.state self.old.flash).geometry constants
+            → StandsFor (F.state self.old.flash) self.old.end self.old.places.entries records state
+            → HasStepped constants records state who (Remove bytes.now) result (F.state self.new.flash) self.new.end self.new.places.entries }
     {
         let Ok(key) = Key::new(bytes) else {
             return refused(KvError::InvalidKey);
@@ -286,9 +287,9 @@ impl<F: Flash> LogStore<F> {
         ensures ready { IsReady (F.state self.new.flash) self.new.end self.new.places.entries self.new.work.items }
         ensures geometry { (F.state self.new.flash).geometry ≡ (F.state self.old.flash).geometry }
         ensures done { IfOk result (λ reply. reply ≡ Reply.Done) }
-        ensures stands { (state : StoreState) → StandsFor (F.state self.old.flash) self.old.end self.old.places.entries state
+        ensures stands { (records : List Write) (state : StoreState) → StandsFor (F.state self.old.flash) self.old.end self.old.places.entries records state
             → OnOk result (StandsFor (F.state self.new.flash) self.new.end self.new.places.entries
-            (with_record (F.state self.old.flash).geometry.prog state key (record { flags = flags; bytes = value.now }))) }
+            (records ++ record { flags = flags; key = key; value = value.now } ∷ []) (with_record (F.state self.old.flash).geometry.prog state key (record { flags = flags; bytes = value.now }))) }
     {
         self.places.insert(copy_of(&key)?, self.end)?;
         Ok(answer_write(self.write(&key, value, flags)))
@@ -303,8 +304,9 @@ impl<F: Flash> LogStore<F> {
         ensures ready { IsReady (F.state self.new.flash) self.new.end self.new.places.entries self.new.work.items }
         ensures geometry { (F.state self.new.flash).geometry ≡ (F.state self.old.flash).geometry }
         ensures done { result ≡ Reply.Done }
-        ensures stands { (state : StoreState) → StandsFor (F.state self.old.flash) self.old.end self.old.places.entries state
-            → StandsFor (F.state self.new.flash) self.new.end self.new.places.entries (without_record (F.state self.old.flash).geometry.prog state key.now) }
+        ensures stands { (records : List Write) (state : StoreState) → StandsFor (F.state self.old.flash) self.old.end self.old.places.entries records state
+            → StandsFor (F.state self.new.flash) self.new.end self.new.places.entries
+            (records ++ record { flags = remove_flags; key = key.now; value = [] } ∷ []) (without_record (F.state self.old.flash).geometry.prog state key.now) }
     {
         let written = self.write(key, &[], REMOVED);
         self.places.remove(key);
@@ -318,7 +320,7 @@ impl<F: Flash> LogStore<F> {
         ensures reads { OnlyReads (F.state self.old.flash) (F.state self.new.flash) }
         ensures end { self.new.end ≡ self.old.end }
         ensures places { self.new.places.entries ≡ self.old.places.entries }
-        ensures flags { (state : StoreState) → StandsFor (F.state self.old.flash) self.old.end self.old.places.entries state → result ≡ Ok (flags_in state key.now) }
+        ensures flags { (records : List Write) (state : StoreState) → StandsFor (F.state self.old.flash) self.old.end self.old.places.entries records state → result ≡ Ok (flags_in state key.now) }
     {
         match self.place_of(key) {
             None => Ok(0),

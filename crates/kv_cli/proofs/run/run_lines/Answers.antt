@@ -1,6 +1,7 @@
-use Rattle.std.proofs.Common.{ℕ, ◌+◌, List, [], ◌∷◌, ◌++◌, take, length, refl, sym, subst, ◌∙◌, ap, add-one, length-append}
+use Rattle.std.proofs.Common.{ℕ, ◌+◌, List, [], ◌∷◌, ◌++◌, take, length, refl, sym, subst, ◌∙◌, ap, add-one, length-append, None}
 use Rattle.std.proofs.Math.Seq.{take-suc}
 use Rattle.std.proofs.lemmas.List.{take_all}
+use Rattle.kv_model.specs.History.{writes}
 use Rattle.script_core.specs.declared.line.Line.{Line}
 use Rattle.kv_cli.specs.Runs.{HasRun}
 use Rattle.kv_cli.proofs.RunLemmas.{run_none, run_more}
@@ -22,7 +23,7 @@ loop-line-preserved g c =
     let line = c.line-item.result in
     let old = c.loop-line.journal.entries in
     let s = g.F.Flash.state c.run_line.new.store.flash in
-    let gone = c.in_ok-run_line.ensures.gone_on run.last run.stands in
+    let gone = c.in_ok-run_line.ensures.gone_on (writes None old) run.last run.stands in
     let grown = ap (λ (n : ℕ). take n lines) (add-one i) ∙ take-suc lines i line c.loop-line-test.true ∙ ap (λ (l : Line). take i lines ++ l ∷ []) (sym c.line-item.is) in
     let more = run_more (take i lines) line old c.run_line.new.journal.entries (g.F.Flash.state c.loop-line.store.flash) s c.loop-line.store.end c.run_line.new.store.end
     c.loop-line.store.places.entries c.run_line.new.store.places.entries run gone in

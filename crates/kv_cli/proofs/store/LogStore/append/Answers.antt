@@ -1,4 +1,4 @@
-use Rattle.std.proofs.Common.{ℕ, List, Some, cond, sym, ◌∙◌, ap, subst, arith}
+use Rattle.std.proofs.Common.{ℕ, List, [], ◌∷◌, ◌++◌, Some, cond, sym, ◌∙◌, ap, subst, arith}
 use Rattle.std.specs.Ordering.{nat_cmp, is_eq}
 use Rattle.std.specs.Cmp.Lexicographic.{slice_cmp}
 use Rattle.flash_core.proofs.GeometryLaws.{prog_positive}
@@ -18,13 +18,13 @@ write-requires-clause-ready g c =
     ready_with c.insert.new.self.entries c.in_ok-copy_of.field-0 (Some end) (omega (arith, c.requires.fits, extent-positive s.geometry.prog (omega arith) r)) c.in_ok-insert.ensures.updates.0 c.requires.ready
 
 pub returns-clause-stands : goal.returns-clause-stands
-returns-clause-stands g c state stands =
+returns-clause-stands g c records state stands =
     let s = g.F.Flash.state c.args.self.now.flash in
     let new = g.F.Flash.state c.write.new.self.flash in
     let end = c.args.self.now.end in
     let stored : Stored = record { flags = c.args.flags; bytes = c.args.value.now } in
     let updated = λ (other : List ℕ). c.in_ok-insert.ensures.updates.0 other
     ∙ ap (λ (key : List ℕ). cond (is_eq (slice_cmp nat_cmp key other)) (Some end) (place_of c.args.self.now.places.entries other)) c.in_ok-copy_of.ensures in
-    subst (λ (places : Places). StandsFor new c.write.new.self.end places (with_record s.geometry.prog state c.args.key stored)) (sym c.write.ensures.places)
-    (subst (λ (later : ℕ). StandsFor new later c.insert.new.self.entries (with_record s.geometry.prog state c.args.key stored)) (sym c.write.ensures.end)
-    (set_after s new end c.args.self.now.places.entries c.insert.new.self.entries c.args.key c.requires.valid c.requires.ready.device stored c.requires.plain c.requires.fits c.requires.header c.write.ensures.written updated state stands))
+    subst (λ (places : Places). StandsFor new c.write.new.self.end places (records ++ record_of c.args.key stored ∷ []) (with_record s.geometry.prog state c.args.key stored)) (sym c.write.ensures.places)
+    (subst (λ (later : ℕ). StandsFor new later c.insert.new.self.entries (records ++ record_of c.args.key stored ∷ []) (with_record s.geometry.prog state c.args.key stored)) (sym c.write.ensures.end)
+    (set_after s new end c.args.self.now.places.entries c.insert.new.self.entries c.args.key c.requires.valid c.requires.ready.device stored c.requires.plain c.requires.fits c.requires.header c.write.ensures.written updated records state stands))

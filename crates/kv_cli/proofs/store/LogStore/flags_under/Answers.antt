@@ -7,7 +7,7 @@ use Rattle.kv_cli.proofs.StoreLemmas.{linked_by, linked_at}
 use Rattle.kv_cli.proofs.store.LogStore.flags_under.Goals as goal
 
 pub returns-in-Some-clause-flags : goal.returns-in-Some-clause-flags
-returns-in-Some-clause-flags g c state stands =
+returns-in-Some-clause-flags g c records state stands =
     let s = g.F.Flash.state c.args.self.now.flash in
     let key = c.args.key.now in
     let link = linked_by s.geometry.prog (image_of s) c.args.self.now.end key _ (Some c.in-Some.place) _ (sym c.in-Some.ensures) (stands.linked key) in
