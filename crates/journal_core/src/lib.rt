@@ -32,10 +32,19 @@ mod tests {
         Ok(())
     }
 
+    fn facts(size: u32, bits: u32) -> Reply {
+        let flags = Flags { bits };
+        Reply::Facts { size, flags }
+    }
+
+    fn refused(error: KvError) -> Reply {
+        Reply::Refused { error }
+    }
+
     fn replies(alloc: Global) -> Result<Vec<(u8, Reply)>, Fail> {
         let bytes = Bytes::new(alloc, &[0x00, 0xFF])?;
+        let empty = Bytes::empty(alloc);
         let key = Bytes::new(alloc, b"cfg.00")?;
-        let all = Flags { bits: 11 };
         let full = KvError::MediaFull {
             need: 65504,
             room: 65496,
@@ -47,42 +56,15 @@ mod tests {
         Ok(vec![in alloc;
             (1, Reply::Done),
             (1, Reply::Value { bytes }),
-            (
-                2,
-                Reply::Value {
-                    bytes: Bytes::empty(alloc)
-                }
-            ),
-            (
-                1,
-                Reply::Facts {
-                    size: 3,
-                    flags: all
-                }
-            ),
-            (
-                1,
-                Reply::Facts {
-                    size: 39,
-                    flags: Flags::NONE
-                }
-            ),
+            (2, Reply::Value { bytes: empty }),
+            (1, facts(3, 11)),
+            (1, facts(39, 0)),
             (2, Reply::Found { key }),
             (2, Reply::End),
-            (1, Reply::Refused { error: full }),
-            (
-                3,
-                Reply::Refused {
-                    error: KvError::Busy { owner: 1 }
-                }
-            ),
-            (3, Reply::Refused { error: corrupt }),
-            (
-                3,
-                Reply::Refused {
-                    error: KvError::NotFound
-                }
-            ),
+            (1, refused(full)),
+            (3, refused(KvError::Busy { owner: 1 })),
+            (3, refused(corrupt)),
+            (3, refused(KvError::NotFound)),
         ]?)
     }
 }

@@ -17,6 +17,27 @@ struct Read<'a> {
     bytes: &'a [u8],
 }
 
+/// A file that is read whole.
+fn whole<'a>(name: &'a str, limit: u32, bytes: &'a [u8]) -> Read<'a> {
+    let refusal = None;
+    Read {
+        name,
+        limit,
+        refusal,
+        bytes,
+    }
+}
+
+fn refused<'a>(name: &'a str, limit: u32, fault: HostFault) -> Read<'a> {
+    let refusal = Some(fault);
+    Read {
+        name,
+        limit,
+        refusal,
+        bytes: b"",
+    }
+}
+
 /// Whether the host answers the read so, through the bound alone.
 fn answers<H: Host>(host: &mut H, read: &Read<'_>, out: &mut Vec<u8>) -> bool {
     let refusal = host.read_file(read.name, read.limit, out).err();
@@ -38,42 +59,12 @@ fn a_read_answers_the_file_up_to_its_limit(rt: HostRuntime) -> Result<(), Fail> 
     host.put_file("empty", b"")?;
     let mut out = b"old".to_vec(alloc)?;
     let reads = [
-        Read {
-            name: "p",
-            limit: 3,
-            refusal: None,
-            bytes: b"abc",
-        },
-        Read {
-            name: "p",
-            limit: 2,
-            refusal: Some(HostFault::TooLong { length: 3 }),
-            bytes: b"",
-        },
-        Read {
-            name: "p",
-            limit: 0xffff_ffff,
-            refusal: None,
-            bytes: b"abc",
-        },
-        Read {
-            name: "q",
-            limit: 3,
-            refusal: Some(HostFault::Absent),
-            bytes: b"",
-        },
-        Read {
-            name: "",
-            limit: 3,
-            refusal: Some(HostFault::Absent),
-            bytes: b"",
-        },
-        Read {
-            name: "empty",
-            limit: 0,
-            refusal: None,
-            bytes: b"",
-        },
+        whole("p", 3, b"abc"),
+        refused("p", 2, HostFault::TooLong { length: 3 }),
+        whole("p", 0xffff_ffff, b"abc"),
+        refused("q", 3, HostFault::Absent),
+        refused("", 3, HostFault::Absent),
+        whole("empty", 0, b""),
     ];
     for read in &reads {
         assert!(rt; answers(&mut host, read, &mut out), "read {:?}", read.name);

@@ -30,6 +30,11 @@ fn bytes(alloc: Global, items: &[u8]) -> Result<Bytes, NoMemory> {
     Bytes::new(alloc, items)
 }
 
+fn called(who: u8, call: Call) -> Line {
+    let act = Act::Do { call };
+    Line { who, act }
+}
+
 #[test]
 fn a_set_and_a_get(rt: HostRuntime) -> Result<(), Fail> {
     let script = parse_script(rt.alloc(), b"1 set a 00Ff wc\n16 get /?*", PLAIN)?;
@@ -43,37 +48,23 @@ fn a_set_and_a_get(rt: HostRuntime) -> Result<(), Fail> {
         key: bytes(rt.alloc(), b"/?*")?,
     };
     assert_eq!(rt; lines.len(), 2);
-    assert_eq!(rt;
-        lines[0],
-        Line {
-            who: 1,
-            act: Act::Do { call: set }
-        }
-    );
-    assert_eq!(rt;
-        lines[1],
-        Line {
-            who: 16,
-            act: Act::Do { call: get }
-        }
-    );
+    assert_eq!(rt; lines[0], called(1, set));
+    assert_eq!(rt; lines[1], called(16, get));
     Ok(())
 }
 
 #[test]
-fn each_form_of_a_line(rt: HostRuntime) -> Result<(), Fail> {
+fn each_other_form_of_a_line(rt: HostRuntime) -> Result<(), Fail> {
     let text =
         b"3 part k 0 4294967295\n3 start k 7 cr\n3 add -\n3 open 255 a*b*\n0 cut r:9:mix:0\n";
     let script = parse_script(rt.alloc(), text, SECURE)?;
-    let key = bytes(rt.alloc(), b"k")?;
     let part = Call::Part {
-        key,
+        key: bytes(rt.alloc(), b"k")?,
         offset: 0,
         count: 4_294_967_295,
     };
-    let key = bytes(rt.alloc(), b"k")?;
     let start = Call::Start {
-        key,
+        key: bytes(rt.alloc(), b"k")?,
         size: 7,
         flags: Flags { bits: 10 },
     };
@@ -84,42 +75,16 @@ fn each_form_of_a_line(rt: HostRuntime) -> Result<(), Fail> {
         n: 255,
         prefix: bytes(rt.alloc(), b"a*b")?,
     };
-    let cut = Act::Cut {
-        side: Side::Rollback,
-        n: 9,
-        pattern: Pattern::Mix { seed: 0 },
-    };
+    let pattern = Pattern::Mix { seed: 0 };
+    let (side, n) = (Side::Rollback, 9);
     let lines = script.lines();
     assert_eq!(rt; lines.len(), 5);
-    assert_eq!(rt;
-        lines[0],
-        Line {
-            who: 3,
-            act: Act::Do { call: part }
-        }
-    );
-    assert_eq!(rt;
-        lines[1],
-        Line {
-            who: 3,
-            act: Act::Do { call: start }
-        }
-    );
-    assert_eq!(rt;
-        lines[2],
-        Line {
-            who: 3,
-            act: Act::Do { call: add }
-        }
-    );
-    assert_eq!(rt;
-        lines[3],
-        Line {
-            who: 3,
-            act: Act::Do { call: open }
-        }
-    );
-    assert_eq!(rt; lines[4], Line { who: 0, act: cut });
+    assert_eq!(rt; lines[0], called(3, part));
+    assert_eq!(rt; lines[1], called(3, start));
+    assert_eq!(rt; lines[2], called(3, add));
+    assert_eq!(rt; lines[3], called(3, open));
+    let act = Act::Cut { side, n, pattern };
+    assert_eq!(rt; lines[4], Line { who: 0, act });
     Ok(())
 }
 
