@@ -1,8 +1,10 @@
+pub mod AnswerLemmas
 pub mod CrcByTable
 pub mod HeaderLemmas
 pub mod LogLemmas
 pub mod MountLemmas
 pub mod PayloadLemmas
+pub mod ReaderLemmas
 pub mod RecordLemmas
 pub mod SizeLemmas
 pub mod WriterLemmas

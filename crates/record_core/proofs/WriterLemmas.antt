@@ -316,6 +316,11 @@ module _ {T U : Type 0} {old mid new : FlashState} {place : ℕ} {header payload
       }
 
 -- an area has room for a master record
+pub master_inside : (g : Geometry) (area : ℕ) → IsValid g → IsArea g area → area + master_size g.prog ≤ size_of g
+master_inside g area valid is_area =
+    let fits : master_size g.prog ≤ area_size g = omega (arith, valid.master_fits, same_up g.prog 24, same_up g.prog 12) in
+    ⊎_elim (λ first. omega (arith, first, fits, size-areas g)) (λ second. omega (arith, second, fits, size-areas g)) is_area
+
 pub can_write_master : (s : FlashState) (area : ℕ) → IsValid s.geometry → IsArea s.geometry area → IfTold s.image (λ image. IsErased image area (master_size s.geometry.prog)) → CanWrite s area (master_size s.geometry.prog)
 can_write_master s area valid is_area erased =
     let prog : ℕ = s.geometry.prog in
@@ -324,8 +329,6 @@ can_write_master s area valid is_area erased =
           (λ first. subst (IsMultipleOf prog) (sym first) (zero-mod prog))
           (λ second. subst (IsMultipleOf prog) (sym second) (area_whole_progs s.geometry valid))
           is_area;
-      inside =
-          let fits : master_size prog ≤ area_size s.geometry = omega (arith, valid.master_fits, same_up prog 24, same_up prog 12) in
-          ⊎_elim (λ first. omega (arith, first, fits, size-areas s.geometry)) (λ second. omega (arith, second, fits, size-areas s.geometry)) is_area;
+      inside = master_inside s.geometry area valid is_area;
       erased = erased;
     }

@@ -1,5 +1,6 @@
 pub mod Header
 pub mod Log
 pub mod Mounts
+pub mod Reading
 pub mod Record
 pub mod Written

@@ -1,6 +1,6 @@
 // Laws of the definitions of records, and an example worked out by hand. Each is a function with nothing to do: its
 // contract is the law.
-ghost use Rattle.std.specs.Prelude.{◌≡◌, ◌≢◌, ◌⊎◌, ◌+◌, ◌-◌, ◌<◌, ◌≤◌, ◌^◌, ◌++◌, [], ◌∷◌, ℕ, List, length, slice_index, IsTrue, Some, None};
+ghost use Rattle.std.specs.Prelude.{◌≡◌, ◌≢◌, ◌⊎◌, ◌+◌, ◌-◌, ◌<◌, ◌≤◌, ◌^◌, ◌++◌, [], ◌∷◌, ℕ, List, length, slice_index, IsTrue, Option, Some, None};
 ghost use Rattle.std.specs.FinMap as map;
 ghost use Rattle.flash_core.specs.declared.geometry.Geometry.{Geometry};
 ghost use Rattle.flash_core.specs.Images.{IsErased, part, put, Torn};
@@ -12,7 +12,8 @@ ghost use Rattle.kv_model.specs.Sizes.{up, master_size};
 ghost use Rattle.record_core.specs.Header.{IsHeader, IsValid, header_bytes};
 ghost use Rattle.record_core.specs.declared.header.Header.{Header};
 ghost use Rattle.record_core.specs.Log.{AreAllRecords, AreRecords, IsRecordAt, applied, extent, map_of, spelling_of};
-ghost use Rattle.record_core.specs.Mounts.{Contents, Holds, Mounts, Stand, reads_of};
+ghost use Rattle.record_core.specs.Mounts.{Contents, Holds, MasterAt, Mounts, Stand, reads_of};
+ghost use Rattle.record_core.specs.Reading.{HasRecord, RecordAt};
 ghost use Rattle.record_core.specs.Record.{IsMaster, IsRecord, header_of, master_bytes, record_bytes};
 
 /// The bytes of a record, worked out by hand but for its CRC: program unit 8, key `a`, value `00ff`.
@@ -47,6 +48,26 @@ pub fn records_stand_where_programmed()
         → slice_index image place ≡ 255 → IsRecordAt prog image place r → ⊥ }
     ensures no_master { (prog : ℕ) (image : List ℕ) (area version : ℕ) → 1 ≤ prog
         → slice_index image area ≡ 255 → IsMaster prog version (part image area (master_size prog)) → ⊥ }
+{}
+
+/// What a reader may answer is one thing, whatever bytes stand there. Of a record or a master record that was programmed
+/// it is the header and the key, or the version; where the first byte is erased it is nothing.
+pub fn readers_have_one_answer()
+    ensures one_header { (prog : ℕ) (image : List ℕ) (place end : ℕ) (key other : List ℕ) (a b : Option Header) → 1 ≤ prog
+        → RecordAt prog image place end key a → RecordAt prog image place end other b → a ≡ b }
+    ensures one_key { (prog : ℕ) (image : List ℕ) (place end : ℕ) (key other : List ℕ) (a b : Header) → 1 ≤ prog
+        → HasRecord prog image place end key a → HasRecord prog image place end other b → key ≡ other }
+    ensures one_version { (prog : ℕ) (image : List ℕ) (area : ℕ) (a b : Option ℕ) → 1 ≤ prog
+        → MasterAt prog image area a → MasterAt prog image area b → a ≡ b }
+    ensures programmed { (prog : ℕ) (image : List ℕ) (place end : ℕ) (r : Write) (key : List ℕ) (found : Option Header) → 1 ≤ prog
+        → IsTrue (is_key r.key) → IsHeader r.flags (length r.key) (length r.value) → place + extent prog r ≤ end → end ≤ length image
+        → RecordAt prog (put image place (spelling_of prog r)) place end key found → found ≡ Some (header_of r.flags r.key r.value) }
+    ensures master { (prog : ℕ) (image : List ℕ) (area version : ℕ) (found : Option ℕ) → 1 ≤ prog → version < 2 ^ 16
+        → area + master_size prog ≤ length image → MasterAt prog (put image area (master_bytes prog version)) area found → found ≡ Some version }
+    ensures erased { (prog : ℕ) (image : List ℕ) (place end : ℕ) (key : List ℕ) (found : Option Header) → 1 ≤ prog
+        → slice_index image place ≡ 255 → RecordAt prog image place end key found → found ≡ None }
+    ensures erased_master { (prog : ℕ) (image : List ℕ) (area : ℕ) (found : Option ℕ) → 1 ≤ prog
+        → slice_index image area ≡ 255 → MasterAt prog image area found → found ≡ None }
 {}
 
 /// Records one behind another go on by more, stay where a range before or behind them is written or torn, and are all

@@ -4,24 +4,32 @@
 //! whole program units too; padding is 0xFF. An area begins with a master record, which has a version; the area's
 //! records follow, each directly behind the one before. The definitions in specs/ say which bytes are a record, what an
 //! image of two areas holds, and the map to which it mounts. Sizes and places are in bytes. No call takes memory.
+//!
+//! A reader answers a record or a master record exactly where one stands, whatever bytes the device has: it tests the
+//! header, the key, the CRC and each byte of padding. A value is read in pieces, so a small buffer serves each size.
 #![tactic(auto)]
 
 mod checksum;
 mod header;
 mod laws;
 mod payload;
+mod range;
+mod reader;
 mod size;
 mod writer;
 
 pub use checksum::crc;
 pub use header::{Header, read_header, write_header};
 pub use laws::{
-    last_record_decides, mounts_once, record_example, records_are_unambiguous, records_go_on,
-    records_stand_where_programmed,
+    last_record_decides, mounts_once, readers_have_one_answer, record_example,
+    records_are_unambiguous, records_go_on, records_stand_where_programmed,
 };
+pub use reader::{read_master, read_record};
 pub use size::{padded_size, size_of_record};
 pub use writer::{write_master, write_record};
 
+#[cfg(test)]
+mod reader_tests;
 #[cfg(test)]
 mod tests;
 #[cfg(test)]

@@ -19,15 +19,15 @@ use kv_model::{Key, KvError};
 
 const ERASED: u8 = 0xFF;
 
-const HEADER_SIZE: u32 = 24;
+pub(crate) const HEADER_SIZE: u32 = 24;
 // How much of the header goes into the CRC.
-const FRONT_SIZE: usize = 20;
+pub(crate) const FRONT_SIZE: usize = 20;
 
-const MASTER_KEY: &[u8] = b"TDBS";
+pub(crate) const MASTER_KEY: &[u8] = b"TDBS";
 
 const MASTER_REVISION: u16 = 1;
 
-const CRC_START: u32 = 0xFFFF_FFFF;
+pub(crate) const CRC_START: u32 = 0xFFFF_FFFF;
 
 // The bytes, and behind them bytes 0xFF.
 fn fill_padded(units: &mut [u8], bytes: &[u8])
@@ -61,9 +61,9 @@ fn program_padded<F: Flash>(
 
 // What is written behind a header.
 #[derive(Clone, Copy)]
-struct Payload<'a> {
-    key: &'a [u8],
-    value: &'a [u8],
+pub(crate) struct Payload<'a> {
+    pub(crate) key: &'a [u8],
+    pub(crate) value: &'a [u8],
 }
 
 // Programs as many bytes of the payload as `work` has, from `from` on. Its first byte has this place.
@@ -117,7 +117,7 @@ fn program_payload<F: Flash>(
 }
 
 // The header of a record of this payload.
-fn header_for(flags: u32, payload: &Payload) -> Header
+pub(crate) fn header_for(flags: u32, payload: &Payload) -> Header
     requires key { length payload.now.key.now ≤ 128 }
     requires value { length payload.now.value.now ≤ 65572 }
     ensures { result ≡ header_of flags payload.now.key.now payload.now.value.now }
@@ -197,7 +197,7 @@ pub fn write_record<F: Flash>(
 }
 
 // The value of the master record of this version.
-fn value_of_master(version: u16) -> [u8; 8]
+pub(crate) fn value_of_master(version: u16) -> [u8; 8]
     ensures { result ≡ master_value version }
 {
     let mut value = [0u8; 8];
