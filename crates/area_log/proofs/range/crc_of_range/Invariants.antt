@@ -1,0 +1,16 @@
+use Rattle.std.proofs.Common.{◌≡◌, ◌≤◌, ◌-◌}
+use Rattle.flash_core.specs.Calls.{OnlyReads}
+use Rattle.flash_core.specs.Images.{part}
+use Rattle.flash_core.specs.State.{IfTold}
+use Rattle.kv_model.specs.Crc.{crc_from}
+use Rattle.area_log.proofs.range.crc_of_range.Given as goal
+
+abbrev pub invariant-loop-done : goal.invariant-loop-done
+invariant-loop-done g l = record {
+  reads : OnlyReads (g.F.Flash.state l.fn.flash) (g.F.Flash.state l.flash);
+  most : l.done ≤ l.size;
+  sum : IfTold (g.F.Flash.state l.fn.flash).image (λ image. l.sum ≡ crc_from l.start (part image l.place l.done));
+}
+
+abbrev pub decreases-loop-done : goal.decreases-loop-done
+decreases-loop-done g l = l.size - l.done

@@ -1,0 +1,97 @@
+// An area, what is appended to it, and its tail.
+ghost use Rattle.std.specs.Prelude.{◌≡◌, ◌↔◌, ◌+◌, ◌-◌, ◌≤◌, length, IsTrue, IfOk, IfErr, OnOk};
+ghost use Rattle.flash_core.specs.Calls.{Rose};
+ghost use Rattle.flash_core.specs.Images.{IsErased, Torn};
+ghost use Rattle.flash_core.specs.Moments.{EachMoment};
+ghost use Rattle.flash_core.specs.Sizes.{IsValid};
+ghost use Rattle.flash_core.specs.State.{IfTold};
+ghost use Rattle.flash_core.specs.Up.{IsMultipleOf};
+ghost use Rattle.kv_model.specs.Sizes.{record_size};
+ghost use Rattle.kv_model.specs.declared.error.KvError.TheVariants.{WriteFault};
+ghost use Rattle.record_core.specs.Header.{IsHeader};
+ghost use Rattle.record_core.specs.Log.{IsRecordAt};
+ghost use Rattle.record_core.specs.Reading.{HasRead};
+ghost use Rattle.record_core.specs.Record.{record_header, record_payload};
+ghost use Rattle.record_core.specs.Written.{Within, WritesRecord};
+
+use crate::range::is_erased_range;
+use flash_core::Flash;
+use kv_model::{Key, KvError};
+use record_core::{size_of_record, write_record};
+
+/// One of the two areas of a device.
+#[derive(Clone, Copy, Debug, PartialEq, Eq)]
+pub struct Area {
+    /// The place of its first byte: 0, or the size of an area.
+    pub base: u32,
+    /// How many bytes it has, half of the device.
+    pub size: u32,
+}
+
+impl Area {
+    ghost use Rattle.area_log.specs.Areas.{end_of, IsAreaOf, IsIn, IsRange};
+
+    /// Programs a record from `at` on, a multiple of the program unit: the key and the value, and then the header. The
+    /// answer is the place behind the record. `WriteFault` comes only where the count of write faults rose. `flags` is
+    /// 0, 1 (write-once) or 2^31 (a remove, whose value is empty); a value has at most 65,572 bytes; the record's range
+    /// is erased and lies in the area. `work` has at least 64 bytes and at least a program unit.
+    ///
+    /// At each moment of the call, and after a fault, the image stands outside the record's range.
+    pub fn append_record<F: Flash>(
+        &self,
+        flash: &mut F,
+        at: u32,
+        key: &Key,
+        value: &[u8],
+        flags: u32,
+        work: &mut [u8],
+    ) -> Result<u32, KvError>
+        requires valid { IsValid (F.state flash.old).geometry }
+        requires area { IsAreaOf (F.state flash.old).geometry self.now }
+        requires unit { (F.state flash.old).geometry.prog ≤ length work.old }
+        requires least { 64 ≤ length work.old }
+        requires header { IsHeader flags (length key.now) (length value.now) }
+        requires aligned { IsMultipleOf (F.state flash.old).geometry.prog at }
+        requires inside { IsRange self.now at (record_size (F.state flash.old).geometry.prog (length key.now) (length value.now)) }
+        requires erased { IfTold (F.state flash.old).image (λ image.
+            IsErased image at (record_size (F.state flash.old).geometry.prog (length key.now) (length value.now))) }
+
+        ensures end { IfOk result (λ end. end ≡ at + record_size (F.state flash.old).geometry.prog (length key.now) (length value.now)) }
+        ensures cause { IfErr result (λ e. (e ≡ WriteFault) × Rose (F.state flash.old).write_faults (F.state flash.new).write_faults) }
+        ensures writes { WritesRecord (F.state flash.old) (F.state flash.new) at
+            (record_header (F.state flash.old).geometry.prog flags key.now value.now)
+            (record_payload (F.state flash.old).geometry.prog key.now value.now) result }
+        ensures stands { IfTold (F.state flash.old).image (λ image. OnOk result (IfTold (F.state flash.new).image (λ left.
+            IsRecordAt (F.state flash.old).geometry.prog left at (record { flags = flags; key = key.now; value = value.now })))) }
+        ensures moments { IfTold (F.state flash.old).image (λ image. EachMoment (F.state flash.old) (F.state flash.new)
+            (Within at (record_size (F.state flash.old).geometry.prog (length key.now) (length value.now)) image)) }
+        ensures outside { IfTold (F.state flash.old).image (λ image. IfTold (F.state flash.new).image (λ left.
+            Torn at (record_size (F.state flash.old).geometry.prog (length key.now) (length value.now)) image left)) }
+    {
+        let key_size = key.as_slice().len() as u32;
+        let size = size_of_record(flash.geometry().prog, key_size, value.len() as u32);
+        write_record(flash, at, key, value, flags, work)?;
+        Ok(at + size)
+    }
+
+    /// Whether every byte from `at` to the area's end is 0xFF. `ReadFault` comes only where the count of read faults
+    /// rose. `at` is a place of the area or its end, and `work` has at least 64 bytes and at least a program unit.
+    pub fn tail_is_erased<F: Flash>(
+        &self,
+        flash: &mut F,
+        at: u32,
+        work: &mut [u8],
+    ) -> Result<bool, KvError>
+        requires valid { IsValid (F.state flash.old).geometry }
+        requires area { IsAreaOf (F.state flash.old).geometry self.now }
+        requires unit { (F.state flash.old).geometry.prog ≤ length work.old }
+        requires least { 64 ≤ length work.old }
+        requires inside { IsIn self.now at }
+
+        ensures reads { HasRead (F.state flash.old) (F.state flash.new) result }
+        ensures erased { IfTold (F.state flash.old).image (λ image. IfOk result (λ is_erased.
+            IsTrue is_erased ↔ IsErased image at (end_of self.now - at))) }
+    {
+        is_erased_range(flash, at, self.base + self.size - at, work)
+    }
+}

@@ -1,0 +1,109 @@
+//! Ranges of a device, read a piece at a time.
+ghost use Rattle.std.specs.Prelude.{◌≡◌, ◌↔◌, ◌+◌, ◌<◌, ◌≤◌, length, slice_index, EachIndex, IsTrue, IfOk, OnOk};
+ghost use Rattle.flash_core.specs.Images.{IsErased, part};
+ghost use Rattle.flash_core.specs.Sizes.{size_of};
+ghost use Rattle.flash_core.specs.State.{IfTold};
+ghost use Rattle.kv_model.specs.Crc.{crc_from};
+ghost use Rattle.record_core.specs.Reading.{HasRead};
+
+use flash_core::Flash;
+use kv_model::KvError;
+use record_core::crc;
+
+const ERASED: u8 = 0xFF;
+
+/// Reads the bytes from `place` on into the whole of `buf`.
+pub(crate) fn read_part<F: Flash>(flash: &mut F, place: u32, buf: &mut [u8]) -> Result<(), KvError>
+    requires { place + length buf.old ≤ size_of (F.state flash.old).geometry }
+    ensures reads { HasRead (F.state flash.old) (F.state flash.new) result }
+    ensures bytes { IfTold (F.state flash.old).image (λ image. OnOk result (buf.new ≡ part image place (length buf.old))) }
+{
+    match flash.read(place, buf) {
+        Ok(()) => Ok(()),
+        Err(_) => Err(KvError::ReadFault),
+    }
+}
+
+/// Reads the bytes from `place` on into the whole of `piece`, and gives their CRC, going on from `start`.
+pub(crate) fn crc_of_piece<F: Flash>(
+    flash: &mut F,
+    place: u32,
+    start: u32,
+    piece: &mut [u8],
+) -> Result<u32, KvError>
+    requires { place + length piece.old ≤ size_of (F.state flash.old).geometry }
+    ensures reads { HasRead (F.state flash.old) (F.state flash.new) result }
+    ensures bytes { IfTold (F.state flash.old).image (λ image. OnOk result (piece.new ≡ part image place (length piece.old))) }
+    ensures sum { IfTold (F.state flash.old).image (λ image. IfOk result (λ sum. sum ≡ crc_from start (part image place (length piece.old)))) }
+{
+    read_part(flash, place, piece)?;
+    Ok(crc(start, piece))
+}
+
+/// The CRC of `size` bytes from `place` on, going on from `start`.
+pub(crate) fn crc_of_range<F: Flash>(
+    flash: &mut F,
+    place: u32,
+    size: u32,
+    start: u32,
+    work: &mut [u8],
+) -> Result<u32, KvError>
+    requires inside { place + size ≤ size_of (F.state flash.old).geometry }
+    requires limit { size_of (F.state flash.old).geometry ≤ 16777216 }
+    requires some { 1 ≤ length work.old }
+    ensures reads { HasRead (F.state flash.old) (F.state flash.new) result }
+    ensures sum { IfTold (F.state flash.old).image (λ image. IfOk result (λ sum. sum ≡ crc_from start (part image place size))) }
+{
+    let most = work.len().min(size as usize) as u32;
+    let mut sum = start;
+    let mut done = 0;
+    while done < size {
+        let count = most.min(size - done);
+        sum = crc_of_piece(flash, place + done, sum, &mut work[..count as usize])?;
+        done += count;
+    }
+    Ok(sum)
+}
+
+fn are_erased(bytes: &[u8]) -> bool
+    ensures { IsTrue result ↔ EachIndex bytes.now (λ k. slice_index bytes.now k ≡ 255) }
+{
+    bytes.iter().all(|byte| *byte == ERASED)
+}
+
+// Whether as many bytes as `piece` has are 0xFF from `place` on.
+fn is_erased_piece<F: Flash>(flash: &mut F, place: u32, piece: &mut [u8]) -> Result<bool, KvError>
+    requires { place + length piece.old ≤ size_of (F.state flash.old).geometry }
+    ensures reads { HasRead (F.state flash.old) (F.state flash.new) result }
+    ensures erased { IfTold (F.state flash.old).image (λ image. IfOk result (λ is_erased.
+        IsTrue is_erased ↔ IsErased image place (length piece.old))) }
+{
+    read_part(flash, place, piece)?;
+    Ok(are_erased(piece))
+}
+
+/// Whether the `size` bytes from `place` on are 0xFF.
+pub(crate) fn is_erased_range<F: Flash>(
+    flash: &mut F,
+    place: u32,
+    size: u32,
+    work: &mut [u8],
+) -> Result<bool, KvError>
+    requires inside { place + size ≤ size_of (F.state flash.old).geometry }
+    requires limit { size_of (F.state flash.old).geometry ≤ 16777216 }
+    requires some { 1 ≤ length work.old }
+    ensures reads { HasRead (F.state flash.old) (F.state flash.new) result }
+    ensures erased { IfTold (F.state flash.old).image (λ image. IfOk result (λ is_erased.
+        IsTrue is_erased ↔ IsErased image place size)) }
+{
+    let most = work.len().min(size as usize) as u32;
+    let mut done = 0;
+    while done < size {
+        let count = most.min(size - done);
+        if !is_erased_piece(flash, place + done, &mut work[..count as usize])? {
+            return Ok(false);
+        }
+        done += count;
+    }
+    Ok(true)
+}
