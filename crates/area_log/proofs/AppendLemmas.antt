@@ -1,6 +1,6 @@
 -- What an append leaves.
-use Rattle.std.proofs.Common.{◌≡◌, ◌⊎◌, ℕ, ◌+◌, ◌≤◌, List, ◌++◌, length, refl, sym, ◌∙◌, ap, subst, arith, inl, inr, ⊎_elim}
-use Rattle.std.specs.Prelude.{Option, Some, None, Result, Ok, Err, IsTrue}
+use Rattle.std.proofs.Common.{◌≡◌, ℕ, ◌+◌, ◌≤◌, List, length, sym, ◌∙◌, subst, arith, ⊎_elim}
+use Rattle.std.specs.Prelude.{Option, Some, Result, Ok, Err, IsTrue}
 use Rattle.flash_core.specs.Images.{put, Torn}
 use Rattle.flash_core.specs.Moments.{EachMoment}
 use Rattle.flash_core.specs.Sizes.{IsValid, size_of}

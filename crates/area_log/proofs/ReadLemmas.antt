@@ -1,11 +1,10 @@
 -- What is read back of a record.
-use Rattle.std.proofs.Common.{◌≡◌, ◌≢◌, ℕ, ◌+◌, ◌-◌, ◌%◌, ◌^◌, ◌<◌, ◌≤◌, List, ◌++◌, length, take, drop, min, replicate, sym, ◌∙◌, ap, arith, append_assoc}
+use Rattle.std.proofs.Common.{◌≡◌, ℕ, ◌+◌, ◌-◌, ◌%◌, ◌^◌, ◌≤◌, List, ◌++◌, length, take, drop, replicate, sym, ◌∙◌, ap, arith, append_assoc}
 use Rattle.std.specs.Prelude.{Result, Ok, Err, IfOk}
 use Rattle.std.proofs.lemmas.List.{drop-replicate}
-use Rattle.std.specs.Int.{w32, to_le_bytes}
 use Rattle.flash_core.specs.Images.{part}
 use Rattle.flash_core.specs.State.{FlashState, IfTold}
-use Rattle.flash_core.proofs.ImageLaws.{length-part, part-append}
+use Rattle.flash_core.proofs.ImageLaws.{part-append}
 use Rattle.kv_model.specs.declared.call.Got.{Got}
 use Rattle.kv_model.specs.declared.error.KvError.{KvError}
 use Rattle.kv_model.specs.Crc.{crc_of}

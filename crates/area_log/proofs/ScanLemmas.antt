@@ -1,28 +1,27 @@
 -- How a walk over the records of an area goes on.
-use Rattle.std.proofs.Common.{◌≡◌, ◌⊎◌, ℕ, ◌+◌, ◌≤◌, ◌<◌, List, [], ◌∷◌, ◌++◌, length, refl, sym, ◌∙◌, ap, subst, arith, inl, inr, ⊎_elim}
+use Rattle.std.proofs.Common.{◌≡◌, ℕ, ◌+◌, ◌≤◌, ◌<◌, List, [], ◌∷◌, ◌++◌, refl, sym, ◌∙◌, ap, subst, arith, inl, inr, ⊎_elim}
 use Rattle.std.specs.Prelude.{Option, Some, None, Result, Ok, Err, IfSome, OnOk}
-use mathlib.Core.Bool.{false≢true}
 use Rattle.flash_core.specs.declared.geometry.Geometry.{Geometry}
 use Rattle.flash_core.specs.Calls.{OnlyReads}
 use Rattle.std.proofs.Math.Nat.{zero-mod}
 use Rattle.flash_core.specs.Sizes.{IsValid, area_size}
 use Rattle.flash_core.specs.State.{FlashState}
 use Rattle.flash_core.specs.Up.{IsMultipleOf}
-use Rattle.flash_core.proofs.GeometryLaws.{area_whole_progs, prog_positive}
-use Rattle.flash_core.proofs.KeptLaws.{OnlyReads-trans, Rose-since}
+use Rattle.flash_core.proofs.GeometryLaws.{area_whole_progs}
+use Rattle.flash_core.proofs.KeptLaws.{Rose-since}
 use Rattle.flash_core.proofs.Units.{IsMultipleOf-add}
 use Rattle.kv_model.specs.declared.error.KvError.{KvError}
 use Rattle.kv_model.specs.History.{Write}
 use Rattle.kv_model.specs.Sizes.{up, master_size, record_size}
 use Rattle.kv_model.proofs.SizesLemmas.{up-ge, up-multiple}
 use Rattle.record_core.specs.declared.header.Header.{Header}
-use Rattle.record_core.specs.Log.{AreRecords, AreAllRecords, IsRecordAt, extent}
+use Rattle.record_core.specs.Log.{AreRecords, extent}
 use Rattle.record_core.specs.Reading.{HasNoRecord, HasRecord, IsFitting, RecordAt}
 use Rattle.record_core.proofs.LogLemmas.{AreRecords-append}
 use Rattle.area_log.specs.declared.area.Area.{Area}
-use Rattle.area_log.specs.Areas.{end_of, first_place, IsAreaOf, IsEnd, IsIn, IsRange}
+use Rattle.area_log.specs.Areas.{end_of, first_place, IsAreaOf, IsEnd}
 use Rattle.area_log.specs.Listing.{Found, found_at, IsListOf, IsNext, IsRefusal, listed}
-use Rattle.area_log.specs.Reading.{IsReadFault, Visits}
+use Rattle.area_log.specs.Reading.{Visits}
 
 -- The records before this place were shown.
 pub record Walked (g : Geometry) (image : List ℕ) (area : Area) (place : ℕ) (stands_for : List Found → Type 0) : Type 0 where

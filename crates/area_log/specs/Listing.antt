@@ -1,7 +1,7 @@
 -- The records of an area as a walk shows them.
-use Rattle.std.specs.Prelude.{◌≡◌, ◌⊎◌, ℕ, ◌+◌, ◌%◌, ◌^◌, ◌≤◌, List, [], ◌∷◌, length}
+use Rattle.std.specs.Prelude.{◌≡◌, ◌⊎◌, ℕ, ◌+◌, ◌≤◌, List, [], ◌∷◌}
 use Rattle.flash_core.specs.declared.geometry.Geometry.{Geometry}
-use Rattle.flash_core.specs.State.{FlashState, IfTold}
+use Rattle.flash_core.specs.State.{FlashState}
 use Rattle.kv_model.specs.declared.error.KvError.{KvError}
 use Rattle.kv_model.specs.declared.error.KvError.TheVariants.{Memory}
 use Rattle.kv_model.specs.History.{Write}

@@ -1,4 +1,4 @@
-use Rattle.std.proofs.Common.{◌∙◌, ap, length}
+use Rattle.std.proofs.Common.{length}
 use Rattle.area_log.proofs.RangeLemmas.{erased_part}
 use Rattle.area_log.proofs.range.is_erased_piece.Goals as goal
 

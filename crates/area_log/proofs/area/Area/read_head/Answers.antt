@@ -1,4 +1,4 @@
-use Rattle.std.proofs.Common.{◌≡◌, ℕ, ◌+◌, ◌≤◌, List, length, sym, ◌∙◌, ap, arith, inr, rules}
+use Rattle.std.proofs.Common.{◌≡◌, ℕ, length, ◌∙◌, ap, arith, inr, rules}
 use Rattle.flash_core.specs.declared.geometry.Geometry.{Geometry}
 use Rattle.flash_core.proofs.GeometryLaws.{prog_positive}
 use Rattle.kv_model.specs.Sizes.{record_size}

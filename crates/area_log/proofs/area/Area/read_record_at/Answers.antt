@@ -1,11 +1,11 @@
-use Rattle.std.proofs.Common.{◌≡◌, ℕ, ◌+◌, ◌≤◌, List, length, sym, ◌∙◌, ap, subst, arith}
+use Rattle.std.proofs.Common.{◌≡◌, ℕ, ◌+◌, length, sym, ◌∙◌, ap, subst, arith}
 use Rattle.std.specs.Prelude.{IfOk}
 use Rattle.flash_core.specs.Images.{part}
 use Rattle.area_log.specs.Reading.{filled, IsWithin}
 use Rattle.flash_core.specs.declared.geometry.Geometry.{Geometry}
 use Rattle.flash_core.specs.Sizes.{size_of}
 use Rattle.flash_core.proofs.GeometryLaws.{prog_positive}
-use Rattle.kv_model.specs.Sizes.{up, record_size}
+use Rattle.kv_model.specs.Sizes.{up}
 use Rattle.kv_model.proofs.SizesLemmas.{up-ge}
 use Rattle.area_log.proofs.AreaLemmas.{area_fits}
 use Rattle.area_log.proofs.ReadLemmas.{gives_of, right_of}

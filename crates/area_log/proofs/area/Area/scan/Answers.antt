@@ -1,11 +1,8 @@
-use Rattle.std.proofs.Common.{◌≡◌, ℕ, ◌+◌, ◌≤◌, List, [], ◌∷◌, ◌++◌, sym, ◌∙◌, ap, subst, arith}
-use Rattle.std.specs.Prelude.{Option, Some, IfSome}
+use Rattle.std.proofs.Common.{◌≡◌, ℕ, ◌+◌, List, [], sym, ◌∙◌, ap, subst, arith}
 use Rattle.flash_core.specs.declared.geometry.Geometry.{Geometry}
 use Rattle.flash_core.proofs.GeometryLaws.{prog_positive}
 use Rattle.flash_core.proofs.KeptLaws.{OnlyReads-refl, OnlyReads-trans}
 use Rattle.kv_model.specs.Sizes.{master_size, record_size}
-use Rattle.record_core.specs.declared.header.Header.{Header}
-use Rattle.record_core.specs.Reading.{IsFitting, RecordAt}
 use Rattle.area_log.specs.declared.area.Area.{Area}
 use Rattle.area_log.specs.Areas.{end_of, first_place, IsEnd, IsRange}
 use Rattle.area_log.proofs.AreaLemmas.{area_fits}
