@@ -1,0 +1,4 @@
+pub mod Halving
+pub mod KeyOrderLemmas
+pub mod PlaceLemmas
+pub mod ReaderLemmas

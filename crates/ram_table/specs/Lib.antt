@@ -1,0 +1,3 @@
+pub mod Reader
+pub mod Table
+pub mod Find

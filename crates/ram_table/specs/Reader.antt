@@ -1,0 +1,59 @@
+-- What contracts see of a reader of keys, and what a read does to it.
+use Rattle.std.specs.Prelude.{◌≡◌, ◌⊎◌, ℕ, ◌+◌, ◌<◌, ◌≤◌, ◌^◌, List, IsTrue, Option, Some, None, Result, IfErr, OnOk}
+use Rattle.std.specs.Ordering.{nat_cmp}
+use Rattle.std.specs.FinMap.{FinMap, contains_key, get}
+use Rattle.kv_model.specs.declared.error.KvError.{KvError}
+use Rattle.kv_model.specs.declared.error.KvError.TheVariants.{ReadFault, Corrupt}
+
+-- from offsets to the bytes of keys
+abbrev pub KeyMap : Type 0
+KeyMap = FinMap nat_cmp (List ℕ)
+
+pub record ReaderState : Type 1 where
+  -- no offset that is read is greater
+  pub bound : ℕ
+  -- how many low bits of a key's CRC are its hash
+  pub hash_bits : ℕ
+  -- how often a read has failed
+  pub read_faults : ℕ
+  -- no read fails
+  pub steady : Type 0
+  -- no call of what it reads from fails
+  pub sound : Type 0
+  -- the keys, where the reader tells them
+  pub keys : Option KeyMap
+
+-- P of the keys, where they are told
+abbrev pub IfTold : Option KeyMap → (KeyMap → Type 0) → Type 0
+IfTold told P = (keys : KeyMap) → told ≡ Some keys → P keys
+
+-- A count of 64 bits rose, or stands at its last value.
+abbrev pub Rose : ℕ → ℕ → Type 0
+Rose before now = (before < now) ⊎ (2 ^ 64 ≤ now + 1)
+
+-- the offset is within the bound, and a told map has it
+pub record CanReadKey (s : ReaderState) (offset : ℕ) : Type 0 where
+  pub within : offset ≤ s.bound
+  pub has : IfTold s.keys (λ keys. IsTrue (contains_key keys offset))
+
+-- What every read keeps, whatever it answers.
+pub record Keeps (old new : ReaderState) : Type 0 where
+  pub bound : new.bound ≡ old.bound
+  pub hash_bits : new.hash_bits ≡ old.hash_bits
+  pub keys : new.keys ≡ old.keys
+  pub read_faults : old.read_faults ≤ new.read_faults
+  pub steady : old.steady → new.steady
+  pub sound : old.sound → new.sound
+
+-- A reader may refuse with these alone: a read that failed, counted, and never on a steady reader; and a header that is
+-- broken, or bytes that are no key, which a told map never shows.
+abbrev pub IsRefusal : ReaderState → ReaderState → KvError → Type 0
+IsRefusal old new ReadFault = Rose old.read_faults new.read_faults × (old.steady → ⊥)
+IsRefusal old new (Corrupt stored computed) = (stored ≡ computed → ⊥) × (old.keys ≡ None)
+IsRefusal old new _ = ⊥
+
+-- A read of the key at an offset, into a key that stands for these bytes afterwards.
+pub record ReadsKey {T : Type 0} (old new : ReaderState) (offset : ℕ) (key : List ℕ) (result : Result T KvError) : Type 0 where
+  pub kept : Keeps old new
+  pub bytes : IfTold old.keys (λ keys. OnOk result (get keys offset ≡ Some key))
+  pub cause : IfErr result (IsRefusal old new)

@@ -1,0 +1,118 @@
+// Looking for a key.
+ghost use Rattle.std.specs.Prelude.{◌≡◌, ◌+◌, ◌<◌, ◌≤◌, ◌^◌, ℕ, length, true, IfOk, IfErr, OnOk};
+ghost use Rattle.kv_model.specs.Crc.{key_hash};
+ghost use Rattle.ram_table.specs.Reader.{IfTold, IsRefusal, Keeps};
+ghost use Rattle.ram_table.specs.Table.{entry_at};
+ghost use Rattle.ram_table.specs.Find.{AreWithin, AscendByHash, IsIndexOf, IsPlaceOf, count_hash};
+
+use crate::{KeyReader, Place, RamTable, Steps};
+use kv_model::{Key, KvError};
+use std::cmp::Ordering;
+use std::sync::ledger::Ledger;
+
+fn copy_of(key: &Key) -> Key
+    ensures { result ≡ key.now }
+{
+    Key::new(key.as_slice()).unwrap()
+}
+
+impl RamTable {
+    // The first place whose entry has no smaller hash, by halving.
+    fn first_of_hash<L: Ledger>(&self, hash: u32, steps: &mut Steps<L>) -> u32
+        ensures inside { result ≤ length self.now.entries }
+        ensures below { AscendByHash self.now.entries → (i : ℕ) → i < result → (entry_at self.now.entries i).hash < hash }
+        ensures above { AscendByHash self.now.entries → (i : ℕ) → result ≤ i → i < length self.now.entries
+            → hash ≤ (entry_at self.now.entries i).hash }
+        ensures not_fewer { steps.old ≤ steps.new }
+        ensures steps { (digits : ℕ) → length self.now.entries < 2 ^ digits → steps.new ≤ steps.old + digits }
+    {
+        let mut low = 0;
+        let mut high = self.len();
+        while low < high {
+            let middle = low + (high - low) / 2;
+            if self.look(middle, steps).0 < hash {
+                low = middle + 1;
+            } else {
+                high = middle;
+            }
+        }
+        low
+    }
+
+    // The place of the key, which is none of those below `first`, among the entries with its hash.
+    fn place_from<R: KeyReader, L: Ledger>(
+        &self,
+        reader: &mut R,
+        first: u32,
+        hash: u32,
+        key: &Key,
+        steps: &mut Steps<L>,
+    ) -> Result<Place, KvError>
+        requires hash { hash ≡ key_hash (R.state reader.old).hash_bits key.now }
+        requires within { AreWithin (R.state reader.old).bound self.now.entries }
+        requires index { IfTold (R.state reader.old).keys (λ keys.
+            IsIndexOf (R.state reader.old).hash_bits keys self.now.entries) }
+        requires inside { first ≤ length self.now.entries }
+        requires below { AscendByHash self.now.entries → (i : ℕ) → i < first → (entry_at self.now.entries i).hash < hash }
+        requires above { AscendByHash self.now.entries → (i : ℕ) → first ≤ i → i < length self.now.entries
+            → hash ≤ (entry_at self.now.entries i).hash }
+        ensures kept { Keeps (R.state reader.old) (R.state reader.new) }
+        ensures follows { R.may_follow reader.old reader.new }
+        ensures inside { IfOk result (λ place. place.at ≤ length self.now.entries) }
+        ensures there { IfOk result (λ place. place.found ≡ true → place.at < length self.now.entries) }
+        ensures place { IfTold (R.state reader.old).keys (λ keys. IfOk result (λ place.
+            IsPlaceOf (R.state reader.old).hash_bits keys self.now.entries key.now place)) }
+        ensures cause { IfErr result (IsRefusal (R.state reader.old) (R.state reader.new)) }
+        ensures not_fewer { steps.old ≤ steps.new }
+        ensures steps { steps.new ≤ steps.old + count_hash hash self.now.entries + 1 }
+    {
+        let mut buffer = copy_of(key);
+        for at in first..self.len() {
+            let (entry_hash, offset) = self.look(at, steps);
+            if entry_hash != hash {
+                return Ok(Place { at, found: false });
+            }
+            reader.key_at(offset, &mut buffer)?;
+            match buffer.cmp(key) {
+                Ordering::Less => {}
+                Ordering::Equal => return Ok(Place { at, found: true }),
+                Ordering::Greater => return Ok(Place { at, found: false }),
+            }
+        }
+        Ok(Place {
+            at: self.len(),
+            found: false,
+        })
+    }
+
+    /// Looks for a key, whose hash is the low bits of its CRC that the reader's keys have: gives the key's place, and
+    /// whether the key stands there. It refuses only with what the reader refused.
+    ///
+    /// It looks at no more entries than the number of binary digits of the length and the number of entries with this
+    /// hash, and one.
+    pub fn find<R: KeyReader, L: Ledger>(
+        &self,
+        reader: &mut R,
+        hash: u32,
+        key: &Key,
+        steps: &mut Steps<L>,
+    ) -> Result<Place, KvError>
+        requires hash { hash ≡ key_hash (R.state reader.old).hash_bits key.now }
+        requires within { AreWithin (R.state reader.old).bound self.now.entries }
+        requires index { IfTold (R.state reader.old).keys (λ keys.
+            IsIndexOf (R.state reader.old).hash_bits keys self.now.entries) }
+        ensures kept { Keeps (R.state reader.old) (R.state reader.new) }
+        ensures follows { R.may_follow reader.old reader.new }
+        ensures inside { IfOk result (λ place. place.at ≤ length self.now.entries) }
+        ensures there { IfOk result (λ place. place.found ≡ true → place.at < length self.now.entries) }
+        ensures place { IfTold (R.state reader.old).keys (λ keys. IfOk result (λ place.
+            IsPlaceOf (R.state reader.old).hash_bits keys self.now.entries key.now place)) }
+        ensures cause { IfErr result (IsRefusal (R.state reader.old) (R.state reader.new)) }
+        ensures not_fewer { steps.old ≤ steps.new }
+        ensures steps { (digits : ℕ) → length self.now.entries < 2 ^ digits
+            → steps.new ≤ steps.old + digits + count_hash hash self.now.entries + 1 }
+    {
+        let first = self.first_of_hash(hash, steps);
+        self.place_from(reader, first, hash, key, steps)
+    }
+}
