@@ -1,0 +1,36 @@
+// Laws of the definitions. Each is a function with nothing to do: its contract is the law.
+ghost use Rattle.std.specs.Prelude.{◌≡◌, ◌<◌, ◌≤◌, ℕ, List, length, slice_set, true, false, Some};
+ghost use Rattle.std.specs.FinMap.{get};
+ghost use Rattle.std.specs.List.{insert, remove};
+ghost use Rattle.kv_model.specs.Crc.{key_hash};
+ghost use Rattle.ram_table.specs.declared.table.Entry.{Entry};
+ghost use Rattle.ram_table.specs.declared.table.Place.{Place};
+ghost use Rattle.ram_table.specs.Reader.{KeyMap};
+ghost use Rattle.ram_table.specs.Table.{entry_at};
+ghost use Rattle.ram_table.specs.Find.{HasKey, IsIndexOf, IsPlaceOf, key_at};
+
+/// A key that is absent is inserted at its place, and the keys still ascend.
+pub fn inserts_keep_the_order()
+    ensures { (hash_bits : ℕ) (keys : KeyMap) (entries : List Entry) (key : List ℕ) (at offset : ℕ)
+        → IsIndexOf hash_bits keys entries → IsPlaceOf hash_bits keys entries key (record { at = at; found = false })
+        → at ≤ length entries → get keys offset ≡ Some key
+        → IsIndexOf hash_bits keys (insert entries at (record { hash = key_hash hash_bits key; offset = offset })) }
+{}
+
+/// A key that is found gets another offset at its place, or is taken out, and the keys still ascend.
+pub fn changes_keep_the_order()
+    ensures replaced { (hash_bits : ℕ) (keys : KeyMap) (entries : List Entry) (at offset : ℕ) → IsIndexOf hash_bits keys entries
+        → at < length entries → get keys offset ≡ Some (key_at keys entries at)
+        → IsIndexOf hash_bits keys (slice_set entries at (record { hash = (entry_at entries at).hash; offset = offset })) }
+    ensures removed { (hash_bits : ℕ) (keys : KeyMap) (entries : List Entry) (at : ℕ) → IsIndexOf hash_bits keys entries
+        → at < length entries → IsIndexOf hash_bits keys (remove entries at) }
+{}
+
+/// A key has one place, and stands nowhere else.
+pub fn places_are_unique()
+    ensures place { (hash_bits : ℕ) (keys : KeyMap) (entries : List Entry) (key : List ℕ) (p q : Place)
+        → p.at ≤ length entries → q.at ≤ length entries
+        → IsPlaceOf hash_bits keys entries key p → IsPlaceOf hash_bits keys entries key q → p ≡ q }
+    ensures entry { (hash_bits : ℕ) (keys : KeyMap) (entries : List Entry) (i j : ℕ) → IsIndexOf hash_bits keys entries
+        → i < length entries → j < length entries → key_at keys entries i ≡ key_at keys entries j → i ≡ j }
+{}
