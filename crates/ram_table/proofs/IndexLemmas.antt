@@ -38,15 +38,15 @@ module _ (bits : ℕ) (keys : KeyMap) where
   is_entry : (key : List ℕ) (hash offset : ℕ) → hash ≡ key_hash bits key → get keys offset ≡ Some key → IsEntry (record { hash = hash; offset = offset })
   is_entry key hash offset is read = (ap is_some read, is ∙ ap (λ o. key_hash bits (unwrap_or o [])) (sym read))
 
-  pub index_insert : (entries : List Entry) (key : List ℕ) (at offset : ℕ) → IsIndexOf bits keys entries
-      → IsPlaceOf bits keys entries key (record { at = at; found = false }) → at ≤ length entries → get keys offset ≡ Some key
-      → IsIndexOf bits keys (insert entries at (record { hash = key_hash bits key; offset = offset }))
-  index_insert entries key at offset index place inside read =
+  pub index_insert : (entries : List Entry) (key : List ℕ) (place : Place) (hash offset : ℕ) → IsIndexOf bits keys entries
+      → IsPlaceOf bits keys entries key place → place.found ≡ false → place.at ≤ length entries → hash ≡ key_hash bits key → get keys offset ≡ Some key
+      → IsIndexOf bits keys (insert entries place.at (record { hash = hash; offset = offset }))
+  index_insert entries key place hash offset index is absent inside hashed read =
       let key_is : key ≡ unwrap_or (get keys offset) [] = ap (λ o. unwrap_or o []) (sym read) in
-      index_of _ (chain_insert none IsEntry AreInOrder entries (chain_of entries index) at (record { hash = key_hash bits key; offset = offset }) inside
-      (is_entry key (key_hash bits key) offset refl read)
-      (λ i lt within. subst (λ (k : List ℕ). IsTrue (is_below bits (key_at keys entries i) k)) key_is (place.below i lt))
-      (λ i le within. subst (λ (k : List ℕ). IsTrue (is_below bits k (key_at keys entries i))) key_is (place.above refl i le within)))
+      index_of _ (chain_insert none IsEntry AreInOrder entries (chain_of entries index) place.at (record { hash = hash; offset = offset }) inside
+      (is_entry key hash offset hashed read)
+      (λ i lt within. subst (λ (k : List ℕ). IsTrue (is_below bits (key_at keys entries i) k)) key_is (is.below i lt))
+      (λ i le within. subst (λ (k : List ℕ). IsTrue (is_below bits k (key_at keys entries i))) key_is (is.above absent i le within)))
 
   pub index_remove : (entries : List Entry) (at : ℕ) → IsIndexOf bits keys entries → at < length entries → IsIndexOf bits keys (remove entries at)
   index_remove entries at index inside = index_of _ (chain_remove none IsEntry AreInOrder entries (chain_of entries index) at inside)

@@ -4,3 +4,4 @@ pub mod PlaceLemmas
 pub mod ReaderLemmas
 pub mod ChainLemmas
 pub mod IndexLemmas
+pub mod LetterLemmas

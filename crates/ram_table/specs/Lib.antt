@@ -1,3 +1,4 @@
 pub mod Reader
 pub mod Table
 pub mod Find
+pub mod Letters

@@ -11,10 +11,10 @@ ghost use Rattle.ram_table.specs.Find.{HasKey, IsIndexOf, IsPlaceOf, key_at};
 
 /// A key that is absent is inserted at its place, and the keys still ascend.
 pub fn inserts_keep_the_order()
-    ensures { (hash_bits : ℕ) (keys : KeyMap) (entries : List Entry) (key : List ℕ) (at offset : ℕ)
-        → IsIndexOf hash_bits keys entries → IsPlaceOf hash_bits keys entries key (record { at = at; found = false })
-        → at ≤ length entries → get keys offset ≡ Some key
-        → IsIndexOf hash_bits keys (insert entries at (record { hash = key_hash hash_bits key; offset = offset })) }
+    ensures { (hash_bits : ℕ) (keys : KeyMap) (entries : List Entry) (key : List ℕ) (place : Place) (hash offset : ℕ)
+        → IsIndexOf hash_bits keys entries → IsPlaceOf hash_bits keys entries key place → place.found ≡ false
+        → place.at ≤ length entries → hash ≡ key_hash hash_bits key → get keys offset ≡ Some key
+        → IsIndexOf hash_bits keys (insert entries place.at (record { hash = hash; offset = offset })) }
 {}
 
 /// A key that is found gets another offset at its place, or is taken out, and the keys still ascend.

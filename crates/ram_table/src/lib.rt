@@ -15,3 +15,6 @@ pub use laws::{changes_keep_the_order, inserts_keep_the_order, places_are_unique
 pub use reader::KeyReader;
 pub use steps::Steps;
 pub use table::{Entry, Place, RamTable};
+
+#[cfg(test)]
+mod tests;
