@@ -1,6 +1,6 @@
 -- The key order by hashes, and among equal hashes by bytes.
 use Rattle.std.proofs.Common.{◌≡◌, ℕ, ◌<◌, ◌≤◌, List, refl, sym, ◌∙◌, ap, arith}
-use Rattle.std.specs.Prelude.{IsTrue}
+use Rattle.std.specs.Prelude.{Bool, IsTrue, true, false}
 use Rattle.std.specs.declared.cmp.Ordering.{Ordering}
 use Rattle.std.specs.declared.cmp.Ordering.TheVariants.{Less, Equal, Greater}
 use Rattle.std.specs.Ordering.{MatchOrdering, is_lt, nat_cmp, ordering_reverse, ordering_then}
@@ -43,3 +43,13 @@ below_by_bytes bits a b same lt =
 
 pub less_from_greater : (a b : List ℕ) → slice_cmp nat_cmp a b ≡ Greater → slice_cmp nat_cmp b a ≡ Less
 less_from_greater a b gt = nat_list_cmp_total.antisymm b a ∙ ap ordering_reverse gt
+
+by_test : (bits : ℕ) (a b : List ℕ) (test : Bool) → is_below bits b a ≡ test → IsTrue (is_below bits a b) → test ≡ false
+by_test bits a b true is below = absurd (not_below_itself bits a (is_below-trans bits a b a below is))
+by_test bits a b false is below = refl
+
+pub not_above : (bits : ℕ) (a b : List ℕ) → IsTrue (is_below bits a b) → is_below bits b a ≡ false
+not_above bits a b below = by_test bits a b (is_below bits b a) refl below
+
+pub not_above_itself : (bits : ℕ) (a : List ℕ) → is_below bits a a ≡ false
+not_above_itself bits a = ap is_lt (tied_itself (key_order_total bits) a)

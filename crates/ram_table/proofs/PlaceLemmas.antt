@@ -11,10 +11,11 @@ use mathlib.Core.Bool.{false≢true}
 use Rattle.kv_model.specs.Crc.{key_hash}
 use Rattle.kv_model.specs.KeyOrder.{is_below}
 use Rattle.ram_table.specs.declared.table.Entry.{Entry}
+use Rattle.ram_table.specs.declared.table.Place.{Place}
 use Rattle.ram_table.specs.Reader.{KeyMap}
 use Rattle.ram_table.specs.Table.{entry_at}
-use Rattle.ram_table.specs.Find.{AscendByHash, HasKey, IsIndexOf, IsPlaceOf, key_at}
-use Rattle.ram_table.proofs.KeyOrderLemmas.{below_by_bytes, below_by_hash, hash_of_below, is_below-trans, less_from_greater, not_below_itself}
+use Rattle.ram_table.specs.Find.{AscendByHash, HasKey, IsFirstAbove, IsIndexOf, IsPlaceOf, key_at}
+use Rattle.ram_table.proofs.KeyOrderLemmas.{below_by_bytes, below_by_hash, hash_of_below, is_below-trans, less_from_greater, not_above, not_above_itself, not_below_itself}
 
 pub ascend_by_hash : (bits : ℕ) (keys : KeyMap) (entries : List Entry) → IsIndexOf bits keys entries → AscendByHash entries
 ascend_by_hash bits keys entries index i j lt inside =
@@ -78,6 +79,22 @@ module _ (bits : ℕ) (keys : KeyMap) (entries : List Entry) (key : List ℕ) (i
     here = λ _. is;
     below = below;
     above = λ not. absurd (false≢true (sym not));
+  }
+
+  pub first_where_absent : (place : Place) → place.found ≡ false → IsPlaceOf bits keys entries key place → IsFirstAbove bits keys entries key place.at
+  first_where_absent place not is = record {
+    before = λ i lt. not_above bits (key_at keys entries i) key (is.below i lt);
+    above = is.above not;
+  }
+
+  pub first_where_present : (place : Place) → place.found ≡ true → IsPlaceOf bits keys entries key place → IsFirstAbove bits keys entries key (place.at + 1)
+  first_where_present place has is = record {
+    before = λ i lt. ⊎_elim (λ less. not_above bits (key_at keys entries i) key (is.below i less))
+        (λ le. let same : place.at ≡ i = omega arith in
+        let key_is : key ≡ key_at keys entries i = sym (is.here has) ∙ ap (λ (n : ℕ). key_at keys entries n) same in
+        subst (λ (k : List ℕ). is_below bits key k ≡ false) key_is (not_above_itself bits key))
+        (cases_lt i place.at);
+    above = λ i le inside. subst (λ (k : List ℕ). IsTrue (is_below bits k (key_at keys entries i))) (is.here has) (index.ascend place.at i (omega arith) inside);
   }
 
 pub equal_bytes : (a b : List ℕ) → slice_cmp nat_cmp a b ≡ Equal → a ≡ b

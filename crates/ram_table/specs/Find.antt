@@ -45,3 +45,8 @@ count_hash hash entries = count_by (λ entry. entry.hash == hash) entries
 -- the entries' hashes don't fall
 abbrev pub AscendByHash : List Entry → Type 0
 AscendByHash entries = (i j : ℕ) → i < j → j < length entries → (entry_at entries i).hash ≤ (entry_at entries j).hash
+
+-- The first place whose key stands above this key: the keys before it are this key or stand below.
+pub record IsFirstAbove (hash_bits : ℕ) (keys : KeyMap) (entries : List Entry) (key : List ℕ) (at : ℕ) : Type 0 where
+  pub before : (i : ℕ) → i < at → is_below hash_bits key (key_at keys entries i) ≡ false
+  pub above : (i : ℕ) → at ≤ i → i < length entries → IsTrue (is_below hash_bits key (key_at keys entries i))

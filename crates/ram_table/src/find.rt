@@ -3,12 +3,13 @@ ghost use Rattle.std.specs.Prelude.{◌≡◌, ◌+◌, ◌<◌, ◌≤◌, ◌^
 ghost use Rattle.kv_model.specs.Crc.{key_hash};
 ghost use Rattle.ram_table.specs.Reader.{IfTold, IsRefusal, Keeps};
 ghost use Rattle.ram_table.specs.Table.{entry_at};
-ghost use Rattle.ram_table.specs.Find.{AreWithin, AscendByHash, IsIndexOf, IsPlaceOf, count_hash};
+ghost use Rattle.ram_table.specs.Find.{AreWithin, AscendByHash, IsFirstAbove, IsIndexOf, IsPlaceOf, count_hash};
 
 use crate::{KeyReader, Place, RamTable, Steps};
 use kv_model::{Key, KvError};
 use std::cmp::Ordering;
-use std::sync::ledger::Ledger;
+use std::marker::Brand;
+use std::sync::ledger::{Blank, Ledger};
 
 fn copy_of(key: &Key) -> Key
     ensures { result ≡ key.now }
@@ -114,5 +115,58 @@ impl RamTable {
     {
         let first = self.first_of_hash(hash, steps);
         self.place_from(reader, first, hash, key, steps)
+    }
+
+    fn first_after<R: KeyReader, L: Ledger>(
+        &self,
+        blank: Blank,
+        reader: &mut R,
+        hash: u32,
+        key: &Key,
+    ) -> Result<u32, KvError>
+        requires name { blank.name ≡ L.name }
+        requires parts { blank.parts ≡ L.parts }
+        requires some { 0 < blank.parts }
+        requires hash { hash ≡ key_hash (R.state reader.old).hash_bits key.now }
+        requires within { AreWithin (R.state reader.old).bound self.now.entries }
+        requires index { IfTold (R.state reader.old).keys (λ keys.
+            IsIndexOf (R.state reader.old).hash_bits keys self.now.entries) }
+        ensures kept { Keeps (R.state reader.old) (R.state reader.new) }
+        ensures follows { R.may_follow reader.old reader.new }
+        ensures inside { IfOk result (λ at. at ≤ length self.now.entries) }
+        ensures first { IfTold (R.state reader.old).keys (λ keys. IfOk result
+            (IsFirstAbove (R.state reader.old).hash_bits keys self.now.entries key.now)) }
+        ensures cause { IfErr result (IsRefusal (R.state reader.old) (R.state reader.new)) }
+    {
+        let length = self.len();
+        let mut steps = Steps::<L>::new(blank);
+        let place = self.find(reader, hash, key, &mut steps)?;
+        if place.found {
+            prove!(place.at < length);
+            return Ok(place.at + 1);
+        }
+        Ok(place.at)
+    }
+
+    /// Looks for the first place whose key stands above a key, whose hash is the low bits of its CRC that the reader's
+    /// keys have. That place is the length where no key stands above. It refuses only with what the reader refused.
+    pub fn place_after<R: KeyReader>(
+        &self,
+        reader: &mut R,
+        hash: u32,
+        key: &Key,
+    ) -> Result<u32, KvError>
+        requires hash { hash ≡ key_hash (R.state reader.old).hash_bits key.now }
+        requires within { AreWithin (R.state reader.old).bound self.now.entries }
+        requires index { IfTold (R.state reader.old).keys (λ keys.
+            IsIndexOf (R.state reader.old).hash_bits keys self.now.entries) }
+        ensures kept { Keeps (R.state reader.old) (R.state reader.new) }
+        ensures follows { R.may_follow reader.old reader.new }
+        ensures inside { IfOk result (λ at. at ≤ length self.now.entries) }
+        ensures first { IfTold (R.state reader.old).keys (λ keys. IfOk result
+            (IsFirstAbove (R.state reader.old).hash_bits keys self.now.entries key.now)) }
+        ensures cause { IfErr result (IsRefusal (R.state reader.old) (R.state reader.new)) }
+    {
+        self.first_after::<R, Brand>(Blank::new(1), reader, hash, key)
     }
 }

@@ -100,46 +100,49 @@ fn put<L: Ledger>(
     Ok(place)
 }
 
-// The place of a letter in a table of the others.
-fn place_among<L: Ledger>(
+// The place of a letter in a table of the others, and the first place behind it there.
+fn places_among<L: Ledger>(
     rt: &impl Abort,
     alloc: Global,
     blank: Blank,
     hash_bits: u32,
     others: &[u8],
     letter: u8,
-) -> Result<Place, Fail>
+) -> Result<(Place, u32), Fail>
     requires name { blank.name ≡ L.name }
     requires parts { blank.parts ≡ L.parts }
     requires some { 0 < blank.parts }
 {
     assert!(rt; hash_bits < 32);
+    assert!(rt; is_letter(letter as u32));
     let mut steps = Steps::<L>::new(blank);
     let mut reader = Letters { hash_bits };
     let mut table = RamTable::new(alloc);
     for other in others {
         put(rt, &mut table, &mut reader, *other, &mut steps)?;
     }
-    put(rt, &mut table, &mut reader, letter, &mut steps)
+    let hash = hash_of(letter as u32, hash_bits);
+    let after = table.place_after(&mut reader, hash, &letter_key(letter as u32))?;
+    Ok((put(rt, &mut table, &mut reader, letter, &mut steps)?, after))
 }
 
 // With 4 bits the hashes of a, b and c are 12, 6 and 0; with 8 bits they are 188, 6 and 144.
 #[test]
 fn keys_are_in_the_order_of_their_hashes(rt: HostRuntime) -> Result<(), Fail> {
-    let cases: [(u32, &[u8], u8, u32, bool); 10] = [
-        (4, b"", b'a', 0, false),
-        (4, b"abc", b'c', 0, true),
-        (4, b"abc", b'b', 1, true),
-        (4, b"abc", b'a', 2, true),
-        (4, b"ba", b'c', 0, false),
-        (4, b"ca", b'b', 1, false),
-        (4, b"cb", b'a', 2, false),
-        (8, b"abc", b'b', 0, true),
-        (8, b"abc", b'c', 1, true),
-        (8, b"ba", b'c', 1, false),
+    let cases: [(u32, &[u8], u8, u32, bool, u32); 10] = [
+        (4, b"", b'a', 0, false, 0),
+        (4, b"abc", b'c', 0, true, 1),
+        (4, b"abc", b'b', 1, true, 2),
+        (4, b"abc", b'a', 2, true, 3),
+        (4, b"ba", b'c', 0, false, 0),
+        (4, b"ca", b'b', 1, false, 1),
+        (4, b"cb", b'a', 2, false, 2),
+        (8, b"abc", b'b', 0, true, 1),
+        (8, b"abc", b'c', 1, true, 2),
+        (8, b"ba", b'c', 1, false, 1),
     ];
-    for (hash_bits, others, letter, at, found) in cases.iter() {
-        let place = place_among::<Brand>(
+    for (hash_bits, others, letter, at, found, after) in cases.iter() {
+        let places = places_among::<Brand>(
             &rt,
             rt.alloc(),
             Blank::new(1),
@@ -148,12 +151,13 @@ fn keys_are_in_the_order_of_their_hashes(rt: HostRuntime) -> Result<(), Fail> {
             *letter,
         )?;
         assert_eq!(rt;
-            place,
+            places.0,
             Place {
                 at: *at,
                 found: *found
             }
         );
+        assert_eq!(rt; places.1, *after);
     }
     Ok(())
 }
@@ -161,23 +165,24 @@ fn keys_are_in_the_order_of_their_hashes(rt: HostRuntime) -> Result<(), Fail> {
 // With no bits all hashes are 0.
 #[test]
 fn equal_hashes_are_told_apart_by_keys(rt: HostRuntime) -> Result<(), Fail> {
-    let cases: [(&[u8], u8, u32, bool); 6] = [
-        (b"cba", b'a', 0, true),
-        (b"cba", b'b', 1, true),
-        (b"cba", b'c', 2, true),
-        (b"bc", b'a', 0, false),
-        (b"ac", b'b', 1, false),
-        (b"ab", b'c', 2, false),
+    let cases: [(&[u8], u8, u32, bool, u32); 6] = [
+        (b"cba", b'a', 0, true, 1),
+        (b"cba", b'b', 1, true, 2),
+        (b"cba", b'c', 2, true, 3),
+        (b"bc", b'a', 0, false, 0),
+        (b"ac", b'b', 1, false, 1),
+        (b"ab", b'c', 2, false, 2),
     ];
-    for (others, letter, at, found) in cases.iter() {
-        let place = place_among::<Brand>(&rt, rt.alloc(), Blank::new(1), 0, others, *letter)?;
+    for (others, letter, at, found, after) in cases.iter() {
+        let places = places_among::<Brand>(&rt, rt.alloc(), Blank::new(1), 0, others, *letter)?;
         assert_eq!(rt;
-            place,
+            places.0,
             Place {
                 at: *at,
                 found: *found
             }
         );
+        assert_eq!(rt; places.1, *after);
     }
     Ok(())
 }
