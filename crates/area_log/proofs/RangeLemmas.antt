@@ -7,12 +7,13 @@ use mathlib.Core.Bool.{false≢true}
 use Rattle.flash_core.specs.Calls.{OnlyReads}
 use Rattle.flash_core.specs.Images.{part, IsErased}
 use Rattle.flash_core.specs.State.{FlashState}
-use Rattle.flash_core.proofs.ImageLaws.{get_or-part, part-append}
+use Rattle.flash_core.proofs.ImageLaws.{get_or-part}
 use Rattle.flash_core.proofs.KeptLaws.{OnlyReads-trans, Rose-since}
 use Rattle.kv_model.specs.Crc.{crc_from, crc_of}
 use Rattle.kv_model.proofs.CrcLemmas.{crc_from-append}
 use Rattle.kv_model.specs.declared.error.KvError.{KvError}
 use Rattle.record_core.specs.Reading.{HasRead}
+use Rattle.record_core.proofs.ReaderLemmas.{crc_of-more}
 
 -- a read behind reads, whose fault is handed on
 pub read_failed : {T U : Type 0} {old mid new : FlashState} (e : KvError) → OnlyReads old mid → HasRead {T = T} mid new (Err e) → HasRead {T = U} old new (Err e)
@@ -48,25 +49,15 @@ erased_more image place done count before piece i from to = elim (cases_lt i (pl
   | inr behind ↦ piece i behind (omega arith)
 ]
 
--- the CRC of a piece more
-pub crc_more : (image : List ℕ) (place done count start : ℕ) → crc_from (crc_from start (part image place done)) (part image (place + done) count) ≡ crc_from start (part image place (done + count))
-crc_more image place done count start =
-    sym (crc_from-append start (part image place done) (part image (place + done) count)) ∙ ap (crc_from start) (sym (part-append image place done count))
-
--- the CRC of no bytes
-pub crc_none : (image : List ℕ) (place start : ℕ) → start ≡ crc_from start (part image place 0)
-unfolding crc_from
-crc_none image place start = refl
-
 -- the CRC of a range that was read in three pieces behind other bytes
 pub crc_in_three : (image front : List ℕ) (place a b c n start first second third : ℕ) → start ≡ crc_of front → first ≡ crc_from start (part image place a) → second ≡ crc_from first (part image (place + a) b)
     → third ≡ crc_from second (part image (place + a + b) c) → a + b + c ≡ n → third ≡ crc_of (front ++ part image place n)
 crc_in_three image front place a b c n start first second third start_is first_is second_is third_is whole =
     let at : place + a + b ≡ place + (a + b) = omega arith in
     third_is
-    ∙ ap (λ (k : ℕ). crc_from k (part image (place + a + b) c)) (second_is ∙ ap (λ (k : ℕ). crc_from k (part image (place + a) b)) first_is ∙ crc_more image place a b start)
+    ∙ ap (λ (k : ℕ). crc_from k (part image (place + a + b) c)) (second_is ∙ ap (λ (k : ℕ). crc_from k (part image (place + a) b)) first_is ∙ crc_of-more start image place a b)
     ∙ ap (λ (p : ℕ). crc_from (crc_from start (part image place (a + b))) (part image p c)) at
-    ∙ crc_more image place (a + b) c start
+    ∙ crc_of-more start image place (a + b) c
     ∙ ap (λ (k : ℕ). crc_from start (part image place k)) whole
     ∙ ap (λ (k : ℕ). crc_from k (part image place n)) start_is
     ∙ sym (crc_from-append 0xFFFF_FFFF front (part image place n))

@@ -1,69 +1,15 @@
 //! Ranges of a device, read a piece at a time.
-ghost use Rattle.std.specs.Prelude.{◌≡◌, ◌↔◌, ◌+◌, ◌<◌, ◌≤◌, length, slice_index, EachIndex, IsTrue, IfOk, OnOk};
-ghost use Rattle.flash_core.specs.Images.{IsErased, part};
+ghost use Rattle.std.specs.Prelude.{◌≡◌, ◌↔◌, ◌+◌, ◌<◌, ◌≤◌, length, slice_index, EachIndex, IsTrue, IfOk};
+ghost use Rattle.flash_core.specs.Images.{IsErased};
 ghost use Rattle.flash_core.specs.Sizes.{size_of};
 ghost use Rattle.flash_core.specs.State.{IfTold};
-ghost use Rattle.kv_model.specs.Crc.{crc_from};
 ghost use Rattle.record_core.specs.Reading.{HasRead};
 
 use flash_core::Flash;
 use kv_model::KvError;
-use record_core::crc;
+use record_core::read_part;
 
 const ERASED: u8 = 0xFF;
-
-/// Reads the bytes from `place` on into the whole of `buf`.
-pub(crate) fn read_part<F: Flash>(flash: &mut F, place: u32, buf: &mut [u8]) -> Result<(), KvError>
-    requires { place + length buf.old ≤ size_of (F.state flash.old).geometry }
-    ensures reads { HasRead (F.state flash.old) (F.state flash.new) result }
-    ensures bytes { IfTold (F.state flash.old).image (λ image. OnOk result (buf.new ≡ part image place (length buf.old))) }
-{
-    match flash.read(place, buf) {
-        Ok(()) => Ok(()),
-        Err(_) => Err(KvError::ReadFault),
-    }
-}
-
-/// Reads the bytes from `place` on into the whole of `piece`, and gives their CRC, going on from `start`.
-pub(crate) fn crc_of_piece<F: Flash>(
-    flash: &mut F,
-    place: u32,
-    start: u32,
-    piece: &mut [u8],
-) -> Result<u32, KvError>
-    requires { place + length piece.old ≤ size_of (F.state flash.old).geometry }
-    ensures reads { HasRead (F.state flash.old) (F.state flash.new) result }
-    ensures bytes { IfTold (F.state flash.old).image (λ image. OnOk result (piece.new ≡ part image place (length piece.old))) }
-    ensures sum { IfTold (F.state flash.old).image (λ image. IfOk result (λ sum. sum ≡ crc_from start (part image place (length piece.old)))) }
-{
-    read_part(flash, place, piece)?;
-    Ok(crc(start, piece))
-}
-
-/// The CRC of `size` bytes from `place` on, going on from `start`.
-pub(crate) fn crc_of_range<F: Flash>(
-    flash: &mut F,
-    place: u32,
-    size: u32,
-    start: u32,
-    work: &mut [u8],
-) -> Result<u32, KvError>
-    requires inside { place + size ≤ size_of (F.state flash.old).geometry }
-    requires limit { size_of (F.state flash.old).geometry ≤ 16777216 }
-    requires some { 1 ≤ length work.old }
-    ensures reads { HasRead (F.state flash.old) (F.state flash.new) result }
-    ensures sum { IfTold (F.state flash.old).image (λ image. IfOk result (λ sum. sum ≡ crc_from start (part image place size))) }
-{
-    let most = work.len().min(size as usize) as u32;
-    let mut sum = start;
-    let mut done = 0;
-    while done < size {
-        let count = most.min(size - done);
-        sum = crc_of_piece(flash, place + done, sum, &mut work[..count as usize])?;
-        done += count;
-    }
-    Ok(sum)
-}
 
 fn are_erased(bytes: &[u8]) -> bool
     ensures { IsTrue result ↔ EachIndex bytes.now (λ k. slice_index bytes.now k ≡ 255) }

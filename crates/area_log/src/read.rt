@@ -13,10 +13,11 @@ ghost use Rattle.area_log.specs.Areas.{end_of, IsAreaOf, IsRange};
 ghost use Rattle.area_log.specs.Reading.{filled, Gives, HoldsRecord, IsBroken, IsCorrupt, IsHeadOf, IsMismatch, IsNotRead, IsReadFault, IsRight, IsWithin};
 
 use crate::Area;
-use crate::range::{crc_of_piece, crc_of_range, read_part};
 use flash_core::Flash;
 use kv_model::{Flags, Got, KvError};
-use record_core::{Header, crc, padded_size, read_header, size_of_record};
+use record_core::{
+    Header, crc, crc_of_piece, crc_of_range, padded_size, read_header, read_part, size_of_record,
+};
 
 const HEADER_SIZE: u32 = 24;
 

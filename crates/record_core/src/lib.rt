@@ -24,6 +24,7 @@ pub use laws::{
     last_record_decides, mounts_once, readers_have_one_answer, record_example,
     records_are_unambiguous, records_go_on, records_stand_where_programmed,
 };
+pub use range::{crc_of_piece, crc_of_range, read_part};
 pub use reader::{read_master, read_record};
 pub use size::{padded_size, size_of_record};
 pub use writer::{write_master, write_record};

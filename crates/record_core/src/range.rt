@@ -12,8 +12,9 @@ use kv_model::KvError;
 
 const ERASED: u8 = 0xFF;
 
-/// Reads the bytes from `place` on into the whole of `buf`.
-pub(crate) fn read_part<F: Flash>(flash: &mut F, place: u32, buf: &mut [u8]) -> Result<(), KvError>
+/// Reads the bytes from `place` on into the whole of `buf`. `ReadFault` comes only where the device's count of read
+/// faults rose.
+pub fn read_part<F: Flash>(flash: &mut F, place: u32, buf: &mut [u8]) -> Result<(), KvError>
     requires { place + length buf.old ≤ size_of (F.state flash.old).geometry }
     ensures reads { HasRead (F.state flash.old) (F.state flash.new) result }
     ensures bytes { IfTold (F.state flash.old).image (λ image. OnOk result (buf.new ≡ part image place (length buf.old))) }
@@ -24,8 +25,9 @@ pub(crate) fn read_part<F: Flash>(flash: &mut F, place: u32, buf: &mut [u8]) -> 
     }
 }
 
-// The CRC of as many bytes as `piece` has, going on from `start`.
-fn crc_of_piece<F: Flash>(
+/// Reads the bytes from `place` on into the whole of `piece`, and gives their CRC, going on from `start`. `ReadFault`
+/// comes only where the device's count of read faults rose.
+pub fn crc_of_piece<F: Flash>(
     flash: &mut F,
     place: u32,
     start: u32,
@@ -33,14 +35,16 @@ fn crc_of_piece<F: Flash>(
 ) -> Result<u32, KvError>
     requires { place + length piece.old ≤ size_of (F.state flash.old).geometry }
     ensures reads { HasRead (F.state flash.old) (F.state flash.new) result }
+    ensures bytes { IfTold (F.state flash.old).image (λ image. OnOk result (piece.new ≡ part image place (length piece.old))) }
     ensures sum { IfTold (F.state flash.old).image (λ image. IfOk result (λ sum. sum ≡ crc_from start (part image place (length piece.old)))) }
 {
     read_part(flash, place, piece)?;
     Ok(crc(start, piece))
 }
 
-/// The CRC of `size` bytes from `place` on, going on from `start`.
-pub(crate) fn crc_of_range<F: Flash>(
+/// The CRC of `size` bytes from `place` on, going on from `start`, read in pieces that `work` has room for.
+/// `ReadFault` comes only where the device's count of read faults rose.
+pub fn crc_of_range<F: Flash>(
     flash: &mut F,
     place: u32,
     size: u32,
