@@ -1,11 +1,12 @@
 -- Changes of an index keep its order.
 use Rattle.std.proofs.Common.{◌≡◌, ℕ, ◌<◌, ◌≤◌, List, [], length, ⊎_elim, refl, sym, ◌∙◌, ap, subst, arith}
-use Rattle.std.specs.Prelude.{IsTrue, Bool, true, false, Some, is_some, slice_set}
+use Rattle.std.specs.Prelude.{IsTrue, Bool, true, false, Option, Some, None, is_some, slice_set}
 use Rattle.std.specs.Option.{unwrap_or}
 use Rattle.std.specs.FinMap.{contains_key, get}
 use Rattle.std.specs.List.{insert, remove}
 use Rattle.std.specs.Cmp.{both_ways}
 use Rattle.std.proofs.lemmas.Bool.{cases_lt}
+use mathlib.Core.Bool.{false≢true}
 use Rattle.kv_model.specs.Crc.{key_hash}
 use Rattle.kv_model.specs.KeyOrder.{is_below}
 use Rattle.ram_table.specs.declared.table.Entry.{Entry}
@@ -15,6 +16,11 @@ use Rattle.ram_table.specs.Table.{entry_at}
 use Rattle.ram_table.specs.Find.{IsIndexOf, IsPlaceOf, key_at}
 use Rattle.ram_table.proofs.ChainLemmas.{IsChain, chain_insert, chain_remove, chain_set}
 use Rattle.ram_table.proofs.KeyOrderLemmas.{is_below-trans, not_below_itself}
+
+-- what holds of each value that is there
+still : {now later : Option (List ℕ)} → ((key : List ℕ) → now ≡ Some key → later ≡ Some key) → IsTrue (is_some now) → later ≡ now
+still {now = None} kept has = absurd (false≢true has)
+still {now = Some key} kept has = kept key refl
 
 module _ (bits : ℕ) (keys : KeyMap) where
   abbrev key_of : Entry → List ℕ
@@ -88,3 +94,19 @@ module _ (bits : ℕ) (keys : KeyMap) where
       (cases_lt p.at q.at) in
       let found_is : p.found ≡ q.found = both_ways p.found q.found (λ is. second.found.1 (first.found.0 is)) (λ is. first.found.1 (second.found.0 is)) in
       λ i. record { at = at_is i; found = found_is i }
+
+-- the keys of one map, at their offsets, in another
+pub index_in_more : (bits : ℕ) (keys more : KeyMap) (entries : List Entry) → IsIndexOf bits keys entries
+    → ((offset : ℕ) (key : List ℕ) → get keys offset ≡ Some key → get more offset ≡ Some key) → IsIndexOf bits more entries
+index_in_more bits keys more entries index kept =
+    let same : (i : ℕ) → i < length entries → get more (entry_at entries i).offset ≡ get keys (entry_at entries i).offset =
+    λ i inside. still (λ (key : List ℕ). kept (entry_at entries i).offset key) (index.has i inside) in
+    let key_is : (i : ℕ) → i < length entries → key_at keys entries i ≡ key_at more entries i =
+    λ i inside. ap (λ o. unwrap_or o []) (sym (same i inside)) in
+    record {
+      has = λ i inside. ap is_some (same i inside) ∙ index.has i inside;
+      hash = λ i inside. index.hash i inside ∙ ap (key_hash bits) (key_is i inside);
+      ascend = λ i j lt inside.
+          subst (λ (k : List ℕ). IsTrue (is_below bits k (key_at more entries j))) (key_is i (omega arith))
+          (subst (λ (k : List ℕ). IsTrue (is_below bits (key_at keys entries i) k)) (key_is j inside) (index.ascend i j lt inside));
+    }

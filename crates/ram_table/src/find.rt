@@ -1,5 +1,5 @@
 // Looking for a key.
-ghost use Rattle.std.specs.Prelude.{◌≡◌, ◌+◌, ◌<◌, ◌≤◌, ◌^◌, ℕ, length, true, IfOk, IfErr, OnOk};
+ghost use Rattle.std.specs.Prelude.{◌≡◌, ◌+◌, ◌<◌, ◌≤◌, ◌^◌, ℕ, length, true, IfOk, IfErr};
 ghost use Rattle.kv_model.specs.Crc.{key_hash};
 ghost use Rattle.ram_table.specs.Reader.{IfTold, IsRefusal, Keeps};
 ghost use Rattle.ram_table.specs.Table.{entry_at};
@@ -11,6 +11,7 @@ use std::cmp::Ordering;
 use std::marker::Brand;
 use std::sync::ledger::{Blank, Ledger};
 
+// Bytes for `key_at` to write over, without memory.
 fn copy_of(key: &Key) -> Key
     ensures { result ≡ key.now }
 {
@@ -117,6 +118,7 @@ impl RamTable {
         self.place_from(reader, first, hash, key, steps)
     }
 
+    // As `place_after`, with a ledger for the counter that `find` is handed.
     fn first_after<R: KeyReader, L: Ledger>(
         &self,
         blank: Blank,

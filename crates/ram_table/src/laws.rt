@@ -1,5 +1,5 @@
 // Laws of the definitions. Each is a function with nothing to do: its contract is the law.
-ghost use Rattle.std.specs.Prelude.{◌≡◌, ◌<◌, ◌≤◌, ℕ, List, length, slice_set, true, false, Some};
+ghost use Rattle.std.specs.Prelude.{◌≡◌, ◌<◌, ◌≤◌, ℕ, List, length, slice_set, false, Some};
 ghost use Rattle.std.specs.FinMap.{get};
 ghost use Rattle.std.specs.List.{insert, remove};
 ghost use Rattle.kv_model.specs.Crc.{key_hash};
@@ -7,7 +7,7 @@ ghost use Rattle.ram_table.specs.declared.table.Entry.{Entry};
 ghost use Rattle.ram_table.specs.declared.table.Place.{Place};
 ghost use Rattle.ram_table.specs.Reader.{KeyMap};
 ghost use Rattle.ram_table.specs.Table.{entry_at};
-ghost use Rattle.ram_table.specs.Find.{HasKey, IsIndexOf, IsPlaceOf, key_at};
+ghost use Rattle.ram_table.specs.Find.{IsIndexOf, IsPlaceOf, key_at};
 
 /// A key that is absent is inserted at its place, and the keys still ascend.
 pub fn inserts_keep_the_order()
@@ -24,6 +24,13 @@ pub fn changes_keep_the_order()
         → IsIndexOf hash_bits keys (slice_set entries at (record { hash = (entry_at entries at).hash; offset = offset })) }
     ensures removed { (hash_bits : ℕ) (keys : KeyMap) (entries : List Entry) (at : ℕ) → IsIndexOf hash_bits keys entries
         → at < length entries → IsIndexOf hash_bits keys (remove entries at) }
+{}
+
+/// Keys still ascend where the reader tells more keys than before.
+pub fn more_keys_keep_the_order()
+    ensures { (hash_bits : ℕ) (keys more : KeyMap) (entries : List Entry) → IsIndexOf hash_bits keys entries
+        → ((offset : ℕ) (key : List ℕ) → get keys offset ≡ Some key → get more offset ≡ Some key)
+        → IsIndexOf hash_bits more entries }
 {}
 
 /// A key has one place, and stands nowhere else.

@@ -11,7 +11,9 @@ mod reader;
 mod steps;
 mod table;
 
-pub use laws::{changes_keep_the_order, inserts_keep_the_order, places_are_unique};
+pub use laws::{
+    changes_keep_the_order, inserts_keep_the_order, more_keys_keep_the_order, places_are_unique,
+};
 pub use reader::KeyReader;
 pub use steps::Steps;
 pub use table::{Entry, Place, RamTable};

@@ -1,5 +1,4 @@
 // What reads keys, as the table sees it.
-ghost use Rattle.std.specs.Prelude.{◌≡◌};
 ghost use Rattle.ram_table.specs.Reader.{ReaderState, CanReadKey, ReadsKey};
 
 use kv_model::{Key, KvError};

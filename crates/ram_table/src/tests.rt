@@ -1,5 +1,5 @@
 // Finding keys of one letter, whose CRCs another program worked out, and a reader whose reads fail.
-ghost use Rattle.std.specs.Prelude.{◌≡◌, ◌+◌, ◌*◌, ◌%◌, ◌<◌, ◌≤◌, ◌^◌, [], ◌∷◌, IfOk, IsTrue, IsOk, true};
+ghost use Rattle.std.specs.Prelude.{◌≡◌, ◌<◌, ◌≤◌, [], ◌∷◌, IfOk, IsTrue, true};
 ghost use Rattle.std.specs.FinMap.{contains_key};
 ghost use Rattle.kv_model.specs.Crc.{crc_of, key_hash};
 ghost use Rattle.ram_table.specs.Find.{IsIndexOf};
@@ -263,5 +263,11 @@ fn entries_are_changed_in_room_that_was_reserved(rt: HostRuntime) -> Result<(), 
     assert_eq!(rt; other.len(), 2);
     assert_eq!(rt; other.entry(0), (6, 40));
     assert_eq!(rt; other.entry(1), (12, 97));
+    Ok(())
+}
+
+#[test]
+fn a_counter_of_steps_takes_no_bytes(rt: HostRuntime) -> Result<(), Fail> {
+    assert_eq!(rt; std::mem::size_of::<Steps<Brand>>(), 0);
     Ok(())
 }
