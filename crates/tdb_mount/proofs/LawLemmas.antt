@@ -1,0 +1,80 @@
+-- The map that a mount leaves.
+use Rattle.std.proofs.Common.{◌≡◌, ℕ, ◌+◌, ◌-◌, ◌*◌, ◌%◌, ◌^◌, ◌<◌, ◌≤◌, Bool, List, [], length, inr, refl, sym, ◌∙◌, ap, subst, arith}
+use Rattle.std.specs.Prelude.{if◌then◌else◌, Option, Some, None, Ok}
+use Rattle.std.proofs.lemmas.Bool.{eq-eqb, ne_eqb}
+use Rattle.flash_core.specs.declared.geometry.Geometry.{Geometry}
+use Rattle.flash_core.specs.Images.{IsErased, Torn}
+use Rattle.flash_core.specs.Sizes.{IsValid, area_size, size_of}
+use Rattle.flash_core.proofs.GeometryLaws.{prog_positive, size-areas}
+use Rattle.flash_core.proofs.ImageLaws.{IsErased-Torn, IsErased-put, IsErased-within, Torn-put}
+use Rattle.kv_model.specs.FlaggedMap.{FlaggedMap}
+use Rattle.kv_model.specs.Sizes.{master_size}
+use Rattle.record_core.specs.Log.{AreAllRecords, map_of}
+use Rattle.record_core.specs.Mounts.{ActiveRecords, Contents, Holds, Mounts, active_area}
+use Rattle.record_core.specs.Record.{master_bytes}
+use Rattle.record_core.proofs.LogLemmas.{all_before_erased}
+use Rattle.record_core.proofs.MountLemmas.{length-master_bytes}
+use Rattle.tdb_mount.specs.Choice.{ChosenIn}
+use Rattle.tdb_mount.specs.Format.{Leaves, LeavesBy, first_erased, formatted}
+use Rattle.tdb_mount.proofs.FormatLemmas.{length-erased, master_in_area}
+use Rattle.tdb_mount.proofs.MountLemmas.{formatted_chosen}
+
+module _ (g : Geometry) (valid : IsValid g) (image : List ℕ) (sized : length image ≡ size_of g) where
+  abbrev start : ℕ
+  start = 0 * area_size g + master_size g.prog
+
+  abbrev limit : ℕ
+  limit = 0 * area_size g + area_size g
+
+  -- behind the master record of a format all is erased
+  erased_behind : IsErased (formatted g image) start (limit - start)
+  erased_behind =
+      let positive = prog_positive g valid in
+      let within : master_size g.prog ≤ area_size g = master_in_area g valid in
+      let fits : 0 + area_size g ≤ length image = omega (arith, sized, size-areas g) in
+      let long = length-erased image (area_size g) (omega (arith, fits)) in
+      let master : List ℕ = master_bytes g.prog 1 in
+      let size : length master ≡ master_size g.prog = length-master_bytes g.prog positive 1 in
+      let torn : Torn 0 (length master) (first_erased g image) (formatted g image) = Torn-put (first_erased g image) 0 master (omega (arith, size, within, long, fits)) in
+      IsErased-Torn 0 (length master) (first_erased g image) (formatted g image) start (limit - start) torn (inr (omega (arith, size)))
+      (IsErased-within (first_erased g image) 0 (area_size g) start (limit - start) (IsErased-put image 0 (area_size g) fits) (omega arith) (omega (arith, within)))
+
+  no_records : AreAllRecords g.prog (formatted g image) start limit start []
+  no_records = all_before_erased g.prog (prog_positive g valid) (formatted g image) start limit start [] refl (omega (arith, master_in_area g valid)) erased_behind
+
+  formatted_mounts : (map : FlaggedMap) → map ≡ map_of [] → ChosenIn g image None → Torn 0 (area_size g) image (formatted g image) → Mounts g (formatted g image) map
+  formatted_mounts map none chosen torn =
+      let now = formatted_chosen g valid image sized chosen torn in (
+        record { first = now.first; second = now.second; records = []; end = start },
+        record {
+          first_master = now.first_master;
+          second_master = now.second_master;
+          active = subst (λ (o : Option ℕ). ActiveRecords g (formatted g image) o start []) (sym now.choice.0) no_records;
+        },
+        none,
+      )
+
+  keeps_by : (left : List ℕ) (contents : Contents) (map : FlaggedMap) → Holds g image contents → map ≡ map_of contents.records → (area : Option ℕ)
+      → active_area contents.first contents.second ≡ area → LeavesBy {T = Unit {0}} {E = Unit {0}} g image left (Ok tt) area → Mounts g left map
+  keeps_by left contents map holds is (Some area) active leaves = subst (λ (l : List ℕ). Mounts g l map) (sym leaves) (contents, holds, is)
+  keeps_by left contents map holds is None active leaves =
+      let chosen : ChosenIn g image None = record { first = contents.first; second = contents.second; first_master = holds.first_master; second_master = holds.second_master; choice = active } in
+      let none : contents.records ≡ [] = (subst (λ (o : Option ℕ). ActiveRecords g image o contents.end contents.records) active holds.active).0 in
+      subst (λ (l : List ℕ). Mounts g l map) (sym leaves.0)
+      (formatted_mounts map (is ∙ ap map_of none) chosen (subst (Torn 0 (area_size g) image) leaves.0 leaves.1))
+
+  pub keeps_the_map : (left : List ℕ) (map : FlaggedMap) → Leaves {T = Unit {0}} {E = Unit {0}} g image left (Ok tt) → Mounts g image map → Mounts g left map
+  keeps_the_map left map leaves mounts =
+      let contents = mounts.0 in
+      let holds = mounts.1 in
+      keeps_by left contents map holds mounts.2 (active_area contents.first contents.second) refl
+      (leaves contents.first contents.second holds.first_master holds.second_master)
+
+-- ---- versions in a circle
+
+pub next_is_second : (version : ℕ) → active_area (Some version) (Some ((version + 1) % 2 ^ 16)) ≡ Some 1
+next_is_second version = ap (λ (b : Bool). Some (if b then 1 else 0)) (eq-eqb ((version + 1) % 2 ^ 16) ((version + 1) % 2 ^ 16) refl)
+
+pub previous_is_first : (version : ℕ) → version < 2 ^ 16 → active_area (Some ((version + 1) % 2 ^ 16)) (Some version) ≡ Some 0
+previous_is_first version lt =
+    ap (λ (b : Bool). Some (if b then 1 else 0)) (ne_eqb version (((version + 1) % 2 ^ 16 + 1) % 2 ^ 16) (λ same. omega (arith, same, lt)))

@@ -1,0 +1,43 @@
+use Rattle.std.proofs.Common.{sym, ◌∙◌, subst}
+use Rattle.std.specs.Prelude.{Ok, Option}
+use Rattle.tdb_mount.specs.declared.active.Active.{Active}
+use Rattle.tdb_mount.specs.Choice.{ChosenIn}
+use Rattle.tdb_mount.proofs.MountLemmas.{format_active, format_failed, format_leaves, leaves_active, some_is}
+use Rattle.tdb_mount.proofs.mount.find_active.Goals as goal
+
+pub returns-in_err-format-in-None-clause-leaves : goal.returns-in_err-format-in-None-clause-leaves
+returns-in_err-format-in-None-clause-leaves g c =
+    let old = g.F.Flash.state c.args.flash.now in
+    let mid = g.F.Flash.state c.read_active.new.flash in
+    let new = g.F.Flash.state c.format.new.flash in
+    let done = c.in_err-format-in-None.ensures in
+    format_failed old mid new c.requires.valid (g.met.F.Flash.lawful c.args.flash.now) c.in_ok-active.ensures.reads.kept done.kept
+    (λ image told. subst (λ (o : Option Active). ChosenIn old.geometry image o) c.in-None.is (c.in_ok-active.ensures.chosen image told)) done.outside
+    c.from_residual-in_err-format-in-None.result c.from_residual-in_err-format-in-None.ensures.0
+
+pub returns-in-Some-clause-leaves : goal.returns-in-Some-clause-leaves
+returns-in-Some-clause-leaves g c image told left stands =
+    let old = g.F.Flash.state c.args.flash.now in
+    let only = c.in_ok-active.ensures.reads.kept in
+    let chosen = subst (λ (o : Option Active). ChosenIn old.geometry image o) c.in-Some.is (c.in_ok-active.ensures.chosen image told) in
+    leaves_active old.geometry c.requires.valid image left (Ok c.in-Some.active) c.in-Some.active chosen (some_is left image (sym stands ∙ only.image ∙ told))
+
+pub returns-in_ok-format-in-None-clause-leaves : goal.returns-in_ok-format-in-None-clause-leaves
+returns-in_ok-format-in-None-clause-leaves g c =
+    let old = g.F.Flash.state c.args.flash.now in
+    let mid = g.F.Flash.state c.read_active.new.flash in
+    let new = g.F.Flash.state c.format.new.flash in
+    let only = c.in_ok-active.ensures.reads.kept in
+    let done = c.in_ok-format-in-None.ensures in
+    format_leaves old mid new c.requires.valid (g.met.F.Flash.lawful c.args.flash.now) only done.kept
+    (λ image told. subst (λ (o : Option Active). ChosenIn old.geometry image o) c.in-None.is (c.in_ok-active.ensures.chosen image told)) done.outside done.formatted (record { number = 0; version = 1 })
+
+pub returns-in_ok-format-in-None-clause-active : goal.returns-in_ok-format-in-None-clause-active
+returns-in_ok-format-in-None-clause-active g c =
+    let old = g.F.Flash.state c.args.flash.now in
+    let mid = g.F.Flash.state c.read_active.new.flash in
+    let new = g.F.Flash.state c.format.new.flash in
+    let only = c.in_ok-active.ensures.reads.kept in
+    let done = c.in_ok-format-in-None.ensures in
+    format_active old mid new c.requires.valid (g.met.F.Flash.lawful c.args.flash.now) only done.kept
+    (λ image told. subst (λ (o : Option Active). ChosenIn old.geometry image o) c.in-None.is (c.in_ok-active.ensures.chosen image told)) done.outside done.formatted

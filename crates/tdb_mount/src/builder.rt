@@ -1,0 +1,201 @@
+//! The table of an area's records, built as a walk shows them.
+ghost use Rattle.std.specs.Prelude.{◌≡◌, ◌⊎◌, ◌+◌, ◌<◌, ◌≤◌, ◌==◌, ℕ, List, [], length, true, IfOk, IfErr, OnOk, IsTrue};
+ghost use Rattle.flash_core.specs.Calls.{OnlyReads};
+ghost use Rattle.flash_core.specs.Sizes.{IsValid};
+ghost use Rattle.flash_core.specs.State.{IfTold};
+ghost use Rattle.kv_model.specs.Crc.{key_hash};
+ghost use Rattle.kv_model.specs.declared.error.KvError.TheVariants.{Memory};
+ghost use Rattle.area_log.specs.Areas.{end_of, IsAreaOf};
+ghost use Rattle.ram_table.specs.Find.{IsIndexOf, IsPlaceOf};
+ghost use Rattle.ram_table.specs.Reader.{IsRefusal};
+ghost use Rattle.tdb_mount.specs.Index.{changed};
+ghost use Rattle.tdb_mount.specs.Keys.{keys_in, keys_of};
+ghost use Rattle.tdb_mount.specs.Room.{AreIn, HasRoomFor};
+
+use crate::DeviceKeys;
+use area_log::{Area, Visitor};
+use flash_core::Flash;
+use kv_model::{Key, KvError};
+use ram_table::{Place, RamTable, Steps};
+use record_core::{Header, crc};
+use std::alloc::Global;
+use std::marker::{Brand, PhantomData};
+use std::sync::ledger::{Blank, Ledger};
+
+const CRC_START: u32 = 0xFFFF_FFFF;
+
+// The flags of a record that takes its key out.
+const REMOVED: u32 = 0x8000_0000;
+
+// The low bits of the key's CRC.
+fn hash_of(key: &Key, hash_bits: u8) -> u32
+    requires { hash_bits ≤ 32 }
+    ensures { result ≡ key_hash hash_bits key.now }
+{
+    let sum = u64::from(crc(CRC_START, key.as_slice()));
+    (sum % (1 << hash_bits)) as u32
+}
+
+// Where the key stands in the table, whose entries are of this area, or would stand.
+fn place_of<L: Ledger, F: Flash>(
+    table: &RamTable,
+    flash: &mut F,
+    area: Area,
+    hash_bits: u8,
+    key: &Key,
+    blank: Blank,
+) -> Result<Place, KvError>
+    requires name { blank.name ≡ L.name }
+    requires parts { blank.parts ≡ L.parts }
+    requires some { 0 < blank.parts }
+    requires valid { IsValid (F.state flash.old).geometry }
+    requires area { IsAreaOf (F.state flash.old).geometry area }
+    requires bits { hash_bits ≤ 32 }
+    requires within { AreIn area table.now.entries }
+    requires index { IfTold (F.state flash.old).image (λ image.
+        IsIndexOf hash_bits (keys_in (F.state flash.old).geometry area image) table.now.entries) }
+    ensures reads { OnlyReads (F.state flash.old) (F.state flash.new) }
+    ensures inside { IfOk result (λ place. place.at ≤ length table.now.entries) }
+    ensures there { IfOk result (λ place. place.found ≡ true → place.at < length table.now.entries) }
+    ensures place { IfTold (F.state flash.old).image (λ image. IfOk result (λ place.
+        IsPlaceOf hash_bits (keys_in (F.state flash.old).geometry area image) table.now.entries key.now place)) }
+    ensures cause { IfErr result (IsRefusal (keys_of (F.state flash.old) area hash_bits) (keys_of (F.state flash.new) area hash_bits)) }
+{
+    let mut reader = DeviceKeys {
+        flash,
+        area,
+        hash_bits,
+    };
+    let mut steps = Steps::<L>::new(blank);
+    table.find(&mut reader, hash_of(key, hash_bits), key, &mut steps)
+}
+
+/// A number of hash bits that stays the same over a walk.
+pub trait HashBits {
+    ghost bits: { ℕ };
+}
+
+impl HashBits for Brand {
+    ghost bits = { 0 };
+}
+
+/// A table of the last record of each key that was shown, and a spare table with room for as many entries.
+#[derive(Drop)]
+pub struct Builder<B: HashBits> {
+    table: RamTable,
+    spare: RamTable,
+    area: Area,
+    hash_bits: u8,
+    fixed: PhantomData<B>,
+    ghost same_bits: { hash_bits ≡ B.bits },
+    ghost bits: { hash_bits ≤ 32 },
+    ghost within: { AreIn area table.entries },
+    ghost room: { HasRoomFor spare table },
+}
+
+impl<B: HashBits> Builder<B> {
+    ghost use Rattle.std.specs.Prelude.{[]};
+
+    /// A builder for an area, of which no record was shown yet. It takes no memory.
+    pub fn new(alloc: Global, area: Area, hash_bits: u8) -> Builder<B>
+        requires most { hash_bits ≤ 32 }
+        requires same { hash_bits ≡ B.bits }
+        ensures area { result.area ≡ area }
+        ensures bits { result.hash_bits ≡ hash_bits }
+        ensures none { result.table.entries ≡ [] }
+    {
+        Builder {
+            table: RamTable::new(alloc),
+            spare: RamTable::new(alloc),
+            area,
+            hash_bits,
+            fixed: PhantomData,
+        }
+    }
+
+    /// The table and the spare one.
+    pub fn into_tables(self) -> (RamTable, RamTable)
+        ensures table { result.0 ≡ self.table }
+        ensures spare { result.1 ≡ self.spare }
+    {
+        let Builder {
+            table,
+            spare,
+            area: _,
+            hash_bits: _,
+            fixed: _,
+        } = self;
+        (table, spare)
+    }
+
+    // Makes room for one entry more in both tables.
+    fn reserve(&mut self) -> Result<(), KvError>
+        ensures entries { self.new.table.entries ≡ self.old.table.entries }
+        ensures spare { OnOk result (1 ≤ self.new.table.spare) }
+        ensures room { OnOk result (length self.new.table.entries + 1 ≤ length self.new.spare.entries + self.new.spare.spare) }
+        ensures area { self.new.area ≡ self.old.area }
+        ensures bits { self.new.hash_bits ≡ self.old.hash_bits }
+        ensures only { IfErr result (λ e. e ≡ Memory) }
+    {
+        let Some(entries) = self.table.len().checked_add(1) else {
+            return Err(KvError::Memory);
+        };
+        if self.table.reserve_one().is_err() || self.spare.reserve(entries).is_err() {
+            return Err(KvError::Memory);
+        }
+        Ok(())
+    }
+
+    // Takes in a record at `at`, whose key has this place and this hash.
+    fn take_in(&mut self, place: Place, hash: u32, at: u32, is_remove: bool) -> Result<(), KvError>
+        requires inside { place.at ≤ length self.old.table.entries }
+        requires there { place.found ≡ true → place.at < length self.old.table.entries }
+        requires from { self.old.area.base ≤ at }
+        requires to { at + 24 ≤ end_of self.old.area }
+        ensures entries { OnOk result (self.new.table.entries ≡ changed self.old.table.entries place hash at is_remove) }
+        ensures area { self.new.area ≡ self.old.area }
+        ensures bits { self.new.hash_bits ≡ self.old.hash_bits }
+        ensures only { IfErr result (λ e. e ≡ Memory) }
+    {
+        match (is_remove, place.found) {
+            (true, true) => self.table.remove(place.at),
+            (true, false) => {}
+            (false, true) => self.table.replace(place.at, at),
+            (false, false) => {
+                self.reserve()?;
+                self.table.insert(place.at, hash, at);
+            }
+        }
+        Ok(())
+    }
+}
+
+impl<B: HashBits> Visitor for Builder<B> {
+    ghost use Rattle.area_log.specs.Listing.{Found};
+    ghost use Rattle.tdb_mount.specs.Index.{IsTable, places_of};
+
+    ghost area = { λ builder. builder.area };
+
+    ghost stands_for = { λ builder list. IsTable builder.hash_bits (places_of list) builder.table.entries };
+
+    ghost ran_out = { λ _. Unit {0} };
+
+    fn found<F: Flash>(
+        &mut self,
+        flash: &mut F,
+        at: u32,
+        key: &Key,
+        header: &Header,
+    ) -> Result<(), KvError> {
+        let blank = Blank::new(1);
+        match place_of::<Brand, F>(&self.table, flash, self.area, self.hash_bits, key, blank) {
+            Ok(place) => {
+                let hash = hash_of(key, self.hash_bits);
+                self.take_in(place, hash, at, header.flags == REMOVED)
+            }
+            // The header that the entry stands for can't be read any more: its record is left out.
+            Err(KvError::Corrupt { .. }) => Ok(()),
+            Err(error) => Err(error),
+        }
+    }
+}

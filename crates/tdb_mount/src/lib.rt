@@ -1,0 +1,20 @@
+//! Mounting a device of two areas, whatever its bytes: which area is active, its version, where its records end,
+//! whether what is behind them is erased, and a table of each key's last record.
+//!
+//! Where no area is valid the first one is formatted: it is erased, and gets a master record of version 1. Nothing
+//! else is written. Places and sizes are in bytes.
+#![tactic(auto)]
+
+mod active;
+mod builder;
+mod format;
+mod keys;
+mod laws;
+mod mount;
+
+pub use keys::DeviceKeys;
+pub use laws::{mounting_keeps_the_map, versions_count_in_a_circle};
+pub use mount::{MountError, Parts, mount_parts};
+
+#[cfg(test)]
+mod tests;
