@@ -1,4 +1,4 @@
--- The map that a mount leaves.
+-- What the laws say of maps, versions, places and keys.
 use Rattle.std.proofs.Common.{◌≡◌, ℕ, ◌+◌, ◌-◌, ◌*◌, ◌%◌, ◌^◌, ◌<◌, ◌≤◌, Bool, List, [], length, inr, refl, sym, ◌∙◌, ap, subst, arith}
 use Rattle.std.specs.Prelude.{if◌then◌else◌, Option, Some, None, Ok}
 use Rattle.std.proofs.lemmas.Bool.{eq-eqb, ne_eqb}
@@ -14,6 +14,20 @@ use Rattle.record_core.specs.Mounts.{ActiveRecords, Contents, Holds, Mounts, act
 use Rattle.record_core.specs.Record.{master_bytes}
 use Rattle.record_core.proofs.LogLemmas.{all_before_erased}
 use Rattle.record_core.proofs.MountLemmas.{length-master_bytes}
+use Rattle.std.specs.FinMap.{get, insert, remove}
+use Rattle.std.specs.Prelude.{◌==◌, ◌↔◌}
+use Rattle.std.proofs.Common.{◌≢◌, ◌∷◌, ◌++◌, true, false}
+use Rattle.kv_model.specs.Flags.{remove_flags}
+use Rattle.kv_model.specs.History.{Write}
+use Rattle.record_core.specs.Log.{IsRecordAt, extent}
+use Rattle.area_log.specs.declared.area.Area.{Area}
+use Rattle.area_log.specs.Areas.{end_of}
+use Rattle.area_log.specs.Listing.{Found}
+use Rattle.area_log.proofs.ScanLemmas.{record_some}
+use Rattle.tdb_mount.specs.Index.{PlaceMap, places_of}
+use Rattle.tdb_mount.specs.Keys.{SpellsKey, key_spelled, keys_in}
+use Rattle.tdb_mount.proofs.KeyLemmas.{found_below, get-tabulate, key_spells, record_spells, spelled_key}
+use Rattle.tdb_mount.proofs.TableLemmas.{get-placed, get-placed_other, get-taken, get-taken_other, places_of-append}
 use Rattle.tdb_mount.specs.Choice.{ChosenIn}
 use Rattle.tdb_mount.specs.Format.{Leaves, LeavesBy, first_erased, formatted}
 use Rattle.tdb_mount.proofs.FormatLemmas.{length-erased, master_in_area}
@@ -78,3 +92,42 @@ next_is_second version = ap (λ (b : Bool). Some (if b then 1 else 0)) (eq-eqb (
 pub previous_is_first : (version : ℕ) → version < 2 ^ 16 → active_area (Some ((version + 1) % 2 ^ 16)) (Some version) ≡ Some 0
 previous_is_first version lt =
     ap (λ (b : Bool). Some (if b then 1 else 0)) (ne_eqb version (((version + 1) % 2 ^ 16 + 1) % 2 ^ 16) (λ same. omega (arith, same, lt)))
+
+-- ---- places
+
+placed_by : (list : List Found) (found : Found) (key : List ℕ) (removes : Bool) → (found.header.flags == remove_flags) ≡ removes
+    → get (places_of (list ++ found ∷ [])) key ≡ get (if removes then remove (places_of list) found.key else insert (places_of list) found.key found.at) key
+placed_by list found key removes is =
+    ap (λ (p : PlaceMap). get p key) (places_of-append list found)
+    ∙ ap (λ (b : Bool). get (if b then remove (places_of list) found.key else insert (places_of list) found.key found.at) key) is
+
+pub place_placed : (list : List Found) (found : Found) → found.header.flags ≢ remove_flags → get (places_of (list ++ found ∷ [])) found.key ≡ Some found.at
+place_placed list found stored = placed_by list found found.key false (ne_eqb found.header.flags remove_flags stored) ∙ get-placed (places_of list) found.key found.at
+
+pub place_removed : (list : List Found) (found : Found) → found.header.flags ≡ remove_flags → get (places_of (list ++ found ∷ [])) found.key ≡ None
+place_removed list found removed = placed_by list found found.key true (eq-eqb found.header.flags remove_flags removed) ∙ get-taken (places_of list) found.key
+
+other_by : (list : List Found) (found : Found) (key : List ℕ) (removes : Bool) → (found.header.flags == remove_flags) ≡ removes → key ≢ found.key
+    → get (places_of (list ++ found ∷ [])) key ≡ get (places_of list) key
+other_by list found key true is other = placed_by list found key true is ∙ get-taken_other (places_of list) found.key key other
+other_by list found key false is other = placed_by list found key false is ∙ get-placed_other (places_of list) found.key found.at key other
+
+pub place_other : (list : List Found) (found : Found) (key : List ℕ) → key ≢ found.key → get (places_of (list ++ found ∷ [])) key ≡ get (places_of list) key
+place_other list found key other = other_by list found key (found.header.flags == remove_flags) refl other
+
+-- ---- keys
+
+module _ (g : Geometry) (area : Area) (image : List ℕ) (positive : 1 ≤ g.prog) where
+  told_spelled : (key : List ℕ) (place : ℕ) → get (keys_in g area image) place ≡ Some key → SpellsKey g.prog image (end_of area) place key
+  told_spelled key place told = key_spells g.prog image (end_of area) place key (found_below (key_spelled g.prog image (end_of area)) (end_of area) place key told)
+
+  spelled_told : (key : List ℕ) (place : ℕ) → SpellsKey g.prog image (end_of area) place key → get (keys_in g area image) place ≡ Some key
+  spelled_told key place spells =
+      let below : place < end_of area = omega (arith, spells.inside, record_some g.prog spells.header.key_size spells.header.value_size positive) in
+      get-tabulate (key_spelled g.prog image (end_of area)) (end_of area) place below ∙ spelled_key g.prog image (end_of area) place key spells
+
+  pub told_as_spelled : (key : List ℕ) (place : ℕ) → (get (keys_in g area image) place ≡ Some key) ↔ SpellsKey g.prog image (end_of area) place key
+  told_as_spelled key place = (told_spelled key place, spelled_told key place)
+
+  pub record_told : (place : ℕ) (r : Write) → IsRecordAt g.prog image place r → place + extent g.prog r ≤ end_of area → get (keys_in g area image) place ≡ Some r.key
+  record_told place r stands inside = spelled_told r.key place (record_spells g.prog positive image (end_of area) place r stands inside)

@@ -13,7 +13,10 @@ mod laws;
 mod mount;
 
 pub use keys::DeviceKeys;
-pub use laws::{mounting_keeps_the_map, versions_count_in_a_circle};
+pub use laws::{
+    keys_are_told_as_spelled, last_record_has_the_place, mounting_keeps_the_map,
+    versions_count_in_a_circle,
+};
 pub use mount::{MountError, Parts, mount_parts};
 
 #[cfg(test)]
