@@ -61,7 +61,7 @@ some x = Some x
 some_not_none : (x : ℕ) → some x ≡ None → ⊥
 some_not_none x same = cc
 
-no_second : (first second : Option ℕ) → active_area first second ≡ None → second ≡ None
+pub no_second : (first second : Option ℕ) → active_area first second ≡ None → second ≡ None
 no_second None None is = refl
 no_second None (Some second) is = absurd (some_not_none 1 is)
 no_second (Some first) None is = absurd (some_not_none 0 is)

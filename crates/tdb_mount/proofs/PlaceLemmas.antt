@@ -89,14 +89,14 @@ module _ (prog : ℕ) (positive : 1 ≤ prog) (image : List ℕ) (end : ℕ) whe
 
 module _ (g : Geometry) (positive : 1 ≤ g.prog) (image : List ℕ) (area : Area) where
   -- a record of the area tells its key
-  tells_record : (place : ℕ) (r : Write) → IsRecordAt g.prog image place r → place + extent g.prog r ≤ end_of area → map.get (keys_in g area image) place ≡ Some r.key
+  pub tells_record : (place : ℕ) (r : Write) → IsRecordAt g.prog image place r → place + extent g.prog r ≤ end_of area → map.get (keys_in g area image) place ≡ Some r.key
   tells_record place r stands inside =
       let below : place < end_of area = omega (arith, inside, extent-positive g.prog positive r) in
       get-tabulate (key_spelled g.prog image (end_of area)) (end_of area) place below
       ∙ spelled_key g.prog image (end_of area) place r.key (record_spells g.prog positive image (end_of area) place r stands inside)
 
   module _ (found : Found) (before : List Found) (next : IsNext g image area found before) where
-    tells_before : (key : List ℕ) (offset : ℕ) → map.get (places_of before) key ≡ Some offset → map.get (keys_in g area image) offset ≡ Some key
+    pub tells_before : (key : List ℕ) (offset : ℕ) → map.get (places_of before) key ≡ Some offset → map.get (keys_in g area image) offset ≡ Some key
     tells_before key offset is =
         let kept = record_of_place g.prog positive image found.at (first_place g area) next.records next.each key offset (ap (λ (l : List Found). map.get (places_of l) key) (sym next.before_is) ∙ is) in
         tells_record offset (record_of key kept.0) kept.1.stands (omega (arith, kept.1.inside, next.inside))
@@ -108,7 +108,7 @@ module _ (g : Geometry) (positive : 1 ≤ g.prog) (image : List ℕ) (area : Are
     tells_this : map.get (keys_in g area image) found.at ≡ Some found.key
     tells_this = tells_record found.at next.this next.stands next.inside ∙ ap (λ (f : Found). Some f.key) (sym next.found_is)
 
-    table_this : (bits : ℕ) (entries : List Entry) (place : Place) (hash : ℕ) (is_remove : Bool) → IsTable bits (places_of before) entries
+    pub table_this : (bits : ℕ) (entries : List Entry) (place : Place) (hash : ℕ) (is_remove : Bool) → IsTable bits (places_of before) entries
         → IsPlaceOf bits (keys_in g area image) entries found.key place → place.at ≤ length entries → (place.found ≡ true → place.at < length entries)
         → hash ≡ key_hash bits found.key → is_remove ≡ (found.header.flags == remove_flags)
         → IsTable bits (places_of (before ++ found ∷ [])) (changed entries place hash found.at is_remove)

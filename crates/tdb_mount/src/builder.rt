@@ -27,8 +27,8 @@ const CRC_START: u32 = 0xFFFF_FFFF;
 // The flags of a record that takes its key out.
 const REMOVED: u32 = 0x8000_0000;
 
-// The low bits of the key's CRC.
-fn hash_of(key: &Key, hash_bits: u8) -> u32
+/// The low bits of the key's CRC, at most 32 of them.
+pub fn hash_of(key: &Key, hash_bits: u8) -> u32
     requires { hash_bits ≤ 32 }
     ensures { result ≡ key_hash hash_bits key.now }
 {
@@ -36,8 +36,9 @@ fn hash_of(key: &Key, hash_bits: u8) -> u32
     (sum % (1 << hash_bits)) as u32
 }
 
-// Where the key stands in the table, whose entries are of this area, or would stand.
-fn place_of<L: Ledger, F: Flash>(
+/// Where the key stands in the table, whose entries are of this area, or would stand. It refuses as `RamTable::find`
+/// does over the keys of the area.
+pub fn place_of<L: Ledger, F: Flash>(
     table: &RamTable,
     flash: &mut F,
     area: Area,

@@ -12,12 +12,15 @@ mod keys;
 mod laws;
 mod mount;
 
+pub use builder::{hash_of, place_of};
+pub use keys::DeviceKeys;
+pub use builder::{hash_of, place_of};
 pub use keys::DeviceKeys;
 pub use laws::{
     keys_are_told_as_spelled, last_record_has_the_place, mounting_keeps_the_map,
     versions_count_in_a_circle,
 };
-pub use mount::{MountError, Parts, mount_parts};
+pub use mount::{MountError, Parts, area_at, mount_parts};
 
 #[cfg(test)]
 mod tests;

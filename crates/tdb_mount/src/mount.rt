@@ -68,8 +68,8 @@ fn refused(error: KvError) -> MountError
     }
 }
 
-// The area of this number.
-fn area_at(geometry: Geometry, number: u8) -> Area
+/// The area of this number, 0 or 1.
+pub fn area_at(geometry: Geometry, number: u8) -> Area
     requires valid { IsValid geometry }
     requires number { number ≤ 1 }
     ensures area { result ≡ area_of geometry number }
