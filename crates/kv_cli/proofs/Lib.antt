@@ -2,10 +2,10 @@ mod AppendLemmas
 pub mod CallLines
 pub mod Causes
 pub mod Endings
-mod FreshLemmas
-mod ReadingLemmas
 pub mod RefusalLines
+mod MountedLemmas
+mod ReadingLemmas
 mod RunLemmas
 mod StepLemmas
 mod StoreLemmas
-mod WritingLemmas
+mod TableLemmas

@@ -1,53 +1,42 @@
 -- What is read back of a record.
-use Rattle.std.proofs.Common.{◌≡◌, ℕ, ◌+◌, ◌/◌, ◌%◌, ◌<◌, ◌≤◌, List, [], ◌∷◌, ◌++◌, length, take, Result, Ok, Err, refl, sym, ◌∙◌, ap, arith}
-use Rattle.std.specs.Int.{w32, to_le_bytes}
-use Rattle.std.proofs.lemmas.List.{take_at}
-use Rattle.kv_model.specs.Crc.{crc_from}
-use Rattle.kv_model.proofs.CrcLemmas.{crc_from-append}
+use Rattle.std.proofs.Common.{◌≡◌, ◌≢◌, ℕ, ◌-◌, ◌<◌, ◌≤◌, List, ◌++◌, length, take, drop, min, replicate, Result, Ok, Err, IfOk, IfErr, MatchResult, ⊎_elim, refl, sym, ◌∙◌, ap, subst, arith}
+use Rattle.std.specs.Prelude.{IsErr, Option, Some, None, nat_lt, true, false}
+use mathlib.Core.Bool.{false≢true}
+use Rattle.std.proofs.lemmas.Bool.{cases_lt}
+use Rattle.std.proofs.lemmas.Bool.Decides.{nat_tests}
+use Rattle.std.proofs.lemmas.List.{append-nil, length-drop, length-take, take_all, take_min}
 use Rattle.flash_core.specs.Images.{part}
+use Rattle.kv_model.specs.FlaggedMap.{Stored}
+use Rattle.kv_model.specs.declared.call.Reply.{Reply}
+use Rattle.kv_model.specs.declared.call.Reply.TheVariants.{Refused, Value}
+use Rattle.flash_core.specs.State.{FlashState, IfTold}
 use Rattle.kv_model.specs.History.{Write}
-use Rattle.record_core.specs.declared.header.Header.{Header}
-use Rattle.record_core.specs.Header.{header_front, header_bytes}
-use Rattle.record_core.specs.Record.{record_crc}
-use Rattle.kv_cli.specs.Reading.{head_of}
-use Rattle.record_core.specs.Log.{IsRecordAt}
-use Rattle.record_core.proofs.LogLemmas.{header_at, value_at}
-use Rattle.kv_model.specs.Sizes.{up}
+use Rattle.kv_model.specs.declared.bytes.NoMemory.{NoMemory}
+use Rattle.kv_model.specs.declared.call.Got.{Got}
 use Rattle.kv_model.specs.declared.error.KvError.{KvError}
+use Rattle.kv_model.specs.declared.error.KvError.TheVariants.{InvalidSize, Memory, NotFound}
+use Rattle.record_core.specs.Log.{IsRecordAt}
+use Rattle.area_log.specs.Reading.{Gives, IsNotRead, IsWithin, filled}
+use Rattle.kv_cli.specs.LogStore.{IfAnswered}
+use Rattle.kv_cli.specs.Reading.{IsPartOf}
+use Rattle.kv_cli.specs.Writing.{image_of, IsTold}
 
--- four bytes hold a number modulo 2^32
-le32_mod : (n : ℕ) → to_le_bytes w32 (n % 4294967296) ≡ to_le_bytes w32 n
-le32_mod n =
-    let first : n % 4294967296 % 256 ≡ n % 256 = omega arith in
-    let second : n % 4294967296 / 256 % 256 ≡ n / 256 % 256 = omega arith in
-    let third : n % 4294967296 / 65536 % 256 ≡ n / 65536 % 256 = omega arith in
-    let fourth : n % 4294967296 / 16777216 % 256 ≡ n / 16777216 % 256 = omega arith in
-    λ i. first i ∷ second i ∷ third i ∷ fourth i ∷ []
+-- a read of a record on a sound device that tells its image
+pub read_answer : (s new : FlashState) → s.steady → IsTold s → (at offset : ℕ) (buf : List ℕ) (result : Result Got KvError) (r : Write) → IsRecordAt s.geometry.prog (image_of s) at r
+    → IfErr result (IsNotRead s new at offset) → IfTold s.image (λ image. (r : Write) → IsRecordAt s.geometry.prog image at r → IfOk result (Gives r offset buf))
+    → MatchResult result (Gives r offset buf) (λ error. (error ≡ InvalidSize) × (length r.value < offset))
+read_answer s new steady device at offset buf (Ok got) r stands cause gives = gives (image_of s) device.told r stands
+read_answer s new steady device at offset buf (Err e) r stands cause gives = ⊎_elim
+    (λ fault. absurd (fault.unsteady steady))
+    (⊎_elim
+    (λ corrupt. absurd (corrupt.untold (image_of s) device.told))
+    (λ beyond. (beyond.is, beyond.beyond (image_of s) device.told r stands)))
+    cause
 
-spelled : (r : Write) → header_bytes (record { flags = r.flags; key_size = length r.key; value_size = length r.value; crc = record_crc r.flags r.key r.value }) ≡ header_bytes (head_of r)
-unfolding header_bytes
-spelled r = ap (λ (crc : List ℕ). header_front r.flags (length r.key) (length r.value) ++ crc) (sym (le32_mod (record_crc r.flags r.key r.value)))
-
-length-header_front : (flags key_size value_size : ℕ) → length (header_front flags key_size value_size) ≡ 20
-unfolding header_front
-length-header_front flags key_size value_size = refl
-
-pub front_of : (header : Header) → take 20 (header_bytes header) ≡ header_front header.flags header.key_size header.value_size
-unfolding header_bytes
-front_of header = take_at _ _ 20 (length-header_front header.flags header.key_size header.value_size)
-
--- the bytes of a record's header spell what it says
-pub head_is : (prog : ℕ) → 1 ≤ prog → (image : List ℕ) (place : ℕ) (r : Write) → IsRecordAt prog image place r → part image place 24 ≡ header_bytes (head_of r)
-head_is prog positive image place r stands = header_at prog positive image place r stands ∙ spelled r
-
-pub in_pieces : (front key value : List ℕ) → crc_from (crc_from (crc_from 0xFFFF_FFFF front) key) value ≡ crc_from 0xFFFF_FFFF (front ++ key ++ value)
-in_pieces front key value =
-    sym (crc_from-append 0xFFFF_FFFF (front ++ key) value ∙ ap (λ (start : ℕ). crc_from start value) (crc_from-append 0xFFFF_FFFF front key))
-
-abbrev ok : {T : Type 0} → T → Result T KvError
+abbrev pub ok : {T : Type 0} → T → Result T KvError
 ok x = Ok x
 
-abbrev err : {T : Type 0} → KvError → Result T KvError
+abbrev pub err : {T : Type 0} → KvError → Result T KvError
 err e = Err e
 
 pub same_ok : {T : Type 0} (x y : T) → ok x ≡ ok y → x ≡ y
@@ -56,19 +45,45 @@ same_ok x y same = cc
 pub not_both : {T : Type 0} (e : KvError) (x : T) → err e ≡ ok x → ⊥
 not_both e x same = cc
 
--- the bytes of the range where a record has its value
-pub value_read : (prog : ℕ) → 1 ≤ prog → (image : List ℕ) (place : ℕ) (r : Write) (start size : ℕ) (items : List ℕ) → IsRecordAt prog image place r
-    → start ≡ place + up prog 24 + length r.key → size ≡ length r.value → items ≡ part image start size → items ≡ r.value
-value_read prog positive image place r start size items stands start_is size_is is =
-    let grouped : start ≡ place + (up prog 24 + length r.key) = omega arith in
-    is ∙ ap (λ (p : ℕ). part image p size) grouped ∙ ap (part image (place + (up prog 24 + length r.key))) size_is ∙ value_at prog positive image place r stands
+pub same_stored : (x y : Stored) → Some x ≡ Some y → x ≡ y
+same_stored x y same = cc
 
--- the CRC of what was read is the one in the header
-pub checksum_right : (r : Write) (front key value : List ℕ) (computed : ℕ) → front ≡ header_front r.flags (length r.key) (length r.value) → r.key ≡ key → value ≡ r.value
-    → computed ≡ crc_from 0xFFFF_FFFF (front ++ key ++ value) → computed < 4294967296 → computed ≡ (head_of r).crc
-checksum_right r front key value computed front_is key_is value_is is fits =
-    let right : computed ≡ record_crc r.flags r.key r.value =
-    is ∙ ap (λ (l : List ℕ). crc_from 0xFFFF_FFFF (l ++ key ++ value)) front_is
-    ∙ ap (λ (l : List ℕ). crc_from 0xFFFF_FFFF (header_front r.flags (length r.key) (length r.value) ++ l ++ value)) (sym key_is)
-    ∙ ap (λ (l : List ℕ). crc_from 0xFFFF_FFFF (header_front r.flags (length r.key) (length r.value) ++ r.key ++ l)) value_is in
-    omega arith
+-- what a buffer is given that has room for just what is asked for
+pub value_given : (value : List ℕ) (r : Write) (offset count n m : ℕ) (buf : List ℕ) (got : Got) → r.value ≡ value → n ≡ min (length value - offset) count → m ≡ n → length buf ≡ m → IsWithin offset m got → Gives r offset buf got
+    → buf ≡ take count (drop offset value)
+value_given value r offset count n m buf got value_is n_is m_is long within gives =
+    let rest : List ℕ = drop offset r.value in
+    let same : length r.value ≡ length value = ap length value_is in
+    let read : got.read ≡ min count (length rest) = omega (arith, within.read, gives.size, n_is, m_is, same, length-drop offset r.value) in
+    let is : part r.value offset got.read ≡ take count rest = ap (λ (k : ℕ). take k rest) read ∙ take_min count rest in
+    let none : length buf - length (take count rest) ≡ 0 = omega (arith, long, length-take count rest, within.read, gives.size, n_is, m_is, same, length-drop offset r.value) in
+    gives.bytes ∙ ap (filled (length buf)) is ∙ ap (λ (k : ℕ). take count rest ++ replicate k 0) none ∙ append-nil (take count rest) ∙ ap (λ (l : List ℕ). take count (drop offset l)) value_is
+
+-- what is answered of a part
+pub part_answer : (there : Option Stored) (offset count : ℕ) (result : Result Reply KvError) (P : Reply → Type 0) → IsPartOf there offset count result → (there ≡ None → P (Refused NotFound))
+    → ((stored : Stored) → there ≡ Some stored → nat_lt (length stored.bytes) offset ≡ true → P (Refused InvalidSize))
+    → ((stored : Stored) → there ≡ Some stored → nat_lt (length stored.bytes) offset ≡ false → P (Value (take count (drop offset stored.bytes)))) → IfAnswered result P
+part_answer None offset count result P is absent large value = subst (λ (r : Result Reply KvError). IfAnswered r P) (sym is) (λ not_memory. absent refl)
+part_answer (Some stored) offset count result P is absent large value = ⊎_elim
+    (λ less. subst (λ (r : Result Reply KvError). IfAnswered r P) (sym (is.0 less)) (λ not_memory. large stored refl (grind (arith, nat_tests))))
+    (λ fits. ⊎_elim
+    (λ gives. subst (λ (r : Result Reply KvError). IfAnswered r P) (sym gives) (value stored refl (grind (arith, nat_tests))))
+    (λ memory. subst (λ (r : Result Reply KvError). IfAnswered r P) (sym memory) (λ not_memory. absurd (not_memory refl)))
+    (is.1 fits))
+    (cases_lt (length stored.bytes) offset)
+
+pub never_below_none : (n : ℕ) → nat_lt n 0 ≡ true → ⊥
+never_below_none n is = grind (arith, nat_tests)
+
+-- all of a value is a part of it
+pub all_of : (value : List ℕ) → length value ≤ 65572 → take 4294967295 (drop 0 value) ≡ value
+all_of value most = take_all 4294967295 value (omega arith)
+
+-- the reply of a call that was answered
+pub answered_as : (answered : Result Reply KvError) (result : Result Reply NoMemory) (P : Reply → Type 0) → IfOk answered (λ reply. result ≡ Ok reply) → IfErr answered (λ error. error ≢ Memory → result ≡ Ok (Refused error))
+    → (answered ≡ Err Memory → IsErr result) → IfAnswered answered P → IfOk result P
+answered_as (Ok reply) result P replies refuses memory holds = subst (λ (r : Result Reply NoMemory). IfOk r P) (sym replies) holds
+answered_as (Err error) (Err none) P replies refuses memory holds = tt
+answered_as (Err error) (Ok reply) P replies refuses memory holds =
+    let other : error ≢ Memory = λ same. false≢true (memory (ap (λ (e : KvError). Err e) same)) in
+    subst (λ (r : Result Reply NoMemory). IfOk r P) (sym (refuses other)) (holds other)

@@ -1,33 +1,35 @@
--- What a read leaves of a store, and what a place says of the map.
-use Rattle.std.proofs.Common.{◌≡◌, ℕ, ◌+◌, ◌-◌, ◌<◌, ◌≤◌, List, [], length, take, drop, Option, Some, None, IfSome, Result, Ok, Err, IfOk, IsOkAnd, OnOk, IsErr, Bool, true, false, rules, MatchResult, Vec, Global, unwrap_or, refl, sym, ◌∙◌, ap, subst, inl, inr, arith}
-use mathlib.Core.Bool.{false≢true}
-use Rattle.std.specs.FinMap as map
-use Rattle.kv_model.specs.declared.bytes.NoMemory.{NoMemory}
-use Rattle.kv_model.specs.declared.call.Info.{Info}
+-- What a read leaves of a store, and what a call is a step by.
+use Rattle.std.proofs.Common.{◌≡◌, ℕ, ◌+◌, ◌-◌, ◌<◌, ◌≤◌, List, [], length, Option, Some, Result, Ok, Err, Bool, true, false, rules, unwrap_or, refl, sym, ◌∙◌, ap, subst, inl, inr, arith}
+use Rattle.std.specs.Prelude.{IsErrAnd, IsTrue, nat_lt, if◌then◌else◌}
+use Rattle.std.proofs.lemmas.Bool.{cases_eq}
+use Rattle.std.proofs.lemmas.Bool.Decides.{nat_tests}
 use Rattle.kv_model.specs.declared.call.Reply.{Reply}
-use Rattle.kv_model.specs.declared.call.Reply.TheVariants.{Value, Facts, Done, Refused}
+use Rattle.kv_model.specs.declared.call.Reply.TheVariants.{Refused}
 use Rattle.kv_model.specs.declared.error.KvError.{KvError}
-use Rattle.kv_model.specs.declared.error.KvError.TheVariants.{Memory, InvalidSize}
 use Rattle.flash_core.specs.declared.geometry.Geometry.{Geometry}
 use Rattle.flash_core.specs.Calls.{OnlyReads}
 use Rattle.flash_core.specs.Images.{IsErased}
-use Rattle.flash_core.specs.Sizes.{IsValid, area_size, size_of}
+use Rattle.flash_core.specs.Sizes.{IsValid, size_of}
 use Rattle.flash_core.specs.State.{FlashState}
 use Rattle.flash_core.specs.Up.{IsMultipleOf}
-use Rattle.kv_model.specs.FlaggedMap.{Stored}
-use Rattle.kv_model.specs.Flags.{remove_flags}
+use Rattle.kv_model.specs.Flags.{is_write_once, remove_flags}
+use Rattle.kv_model.specs.Sizes.{record_size}
+use Rattle.kv_model.specs.declared.error.KvError.TheVariants.{WriteProtected, MediaFull}
 use Rattle.kv_model.specs.History.{Write}
 use Rattle.kv_model.specs.Operations.{Operation}
 use Rattle.kv_model.specs.PlainStep.{Constants, Outcome, plain_step}
 use Rattle.kv_model.specs.StoreState.{StoreState}
-use Rattle.std.specs.Prelude.{IsTrue, is_none, nat_lt, if◌then◌else◌}
-use Rattle.std.proofs.lemmas.Bool.{cases_eq, cases_lt}
-use Rattle.std.proofs.lemmas.Bool.Decides.{nat_tests}
 use Rattle.kv_model.specs.Keys.{is_key, is_prefix}
 use Rattle.record_core.specs.Header.{IsHeader}
-use Rattle.kv_model.specs.Sizes.{master_size}
+use Rattle.area_log.specs.declared.area.Area.{Area}
+use Rattle.area_log.specs.Areas.{end_of, first_place, IsAreaOf}
+use Rattle.ram_table.specs.declared.table.Entry.{Entry}
+use Rattle.ram_table.specs.declared.table.Place.{Place}
+use Rattle.ram_table.specs.Find.{IsPlaceOf}
+use Rattle.ram_table.specs.Table.{TableState}
+use Rattle.tdb_mount.specs.Keys.{keys_in}
 use Rattle.kv_cli.specs.Writing.{image_of, IsTold}
-use Rattle.kv_cli.specs.LogStore.{Places, place_of, IsReady, IsKept, IsLinked, IsLogOf, StandsFor, HasStepped, grown}
+use Rattle.kv_cli.specs.LogStore.{Masters, IfAnswered, IsLogOf, IsOver, IsPlaced, IsReady, StandsFor, HasStepped, RoomCheck, flags_in, grown, hash_bits}
 
 module _ {old new : FlashState} (reads : OnlyReads old new) where
   pub same_image : image_of new ≡ image_of old
@@ -41,104 +43,64 @@ module _ {old new : FlashState} (reads : OnlyReads old new) where
     sized = ap length same_image ∙ device.sized ∙ ap size_of (sym reads.geometry);
   }
 
-  pub IsReady-read : {end : ℕ} {places : Places} {work : List ℕ} → IsReady old end places work → IsReady new end places work
-  IsReady-read {end} {places} {work} ready = record {
-    device = IsTold-read ready.device;
-    begin = subst (λ (g : Geometry). master_size g.prog ≤ end) (sym reads.geometry) ready.begin;
-    end_aligned = subst (λ (g : Geometry). IsMultipleOf g.prog end) (sym reads.geometry) ready.end_aligned;
-    end_inside = subst (λ (g : Geometry). end ≤ area_size g) (sym reads.geometry) ready.end_inside;
-    erased = subst (λ (g : Geometry). IsErased (image_of new) end (area_size g - end)) (sym reads.geometry)
-        (subst (λ (image : List ℕ). IsErased image end (area_size old.geometry - end)) (sym same_image) ready.erased);
-    places_inside = subst (λ (g : Geometry). (key : List ℕ) → IfSome (place_of places key) (λ place. place + 24 ≤ area_size g)) (sym reads.geometry) ready.places_inside;
-    work_size = ready.work_size;
+  -- what is said of the geometry and the image
+  moved : (P : Geometry → List ℕ → Type 0) → P old.geometry (image_of old) → P new.geometry (image_of new)
+  moved P holds = subst (λ (g : Geometry). P g (image_of new)) (sym reads.geometry) (subst (P old.geometry) (sym same_image) holds)
+
+  pub IsPlaced-read : {area : Area} {entries : List Entry} {key : List ℕ} {place : Place} → IsPlaced old area entries key place → IsPlaced new area entries key place
+  IsPlaced-read {area} {entries} {key} {place} placed = record {
+    inside = placed.inside;
+    there = placed.there;
+    is = moved (λ g image. IsPlaceOf hash_bits (keys_in g area image) entries key place) placed.is;
   }
 
-  pub StandsFor-read : {end : ℕ} {places : Places} {records : List Write} {state : StoreState} → StandsFor old end places records state → StandsFor new end places records state
-  StandsFor-read {end} {places} {records} {state} stands = record {
-    linked = λ key. subst (λ (g : Geometry). IsLinked g.prog (image_of new) end key (place_of places key) (map.get state.primary key)) (sym reads.geometry)
-        (subst (λ (image : List ℕ). IsLinked old.geometry.prog image end key (place_of places key) (map.get state.primary key)) (sym same_image) (stands.linked key));
-    log = subst (λ (g : Geometry). IsLogOf g (image_of new) end records) (sym reads.geometry) (subst (λ (image : List ℕ). IsLogOf old.geometry image end records) (sym same_image) stands.log);
-    map_is = stands.map_is;
-    spent = stands.spent ∙ ap (λ (g : Geometry). master_size g.prog + state.spent) (sym reads.geometry);
-    running = stands.running;
-    no_set = stands.no_set;
-  }
+  module _ {area : Area} {end : ℕ} {entries : List Entry} where
+    pub IsReady-read : {work later : List ℕ} → length later ≡ length work → IsReady old area end entries work → IsReady new area end entries later
+    IsReady-read {work} {later} same_length ready = record {
+      device = IsTold-read ready.device;
+      is_area = subst (λ (g : Geometry). IsAreaOf g area) (sym reads.geometry) ready.is_area;
+      masters = ready.masters;
+      records = ready.records;
+      log = moved (λ g image. IsLogOf g image area end entries ready.masters ready.records) ready.log;
+      end_aligned = subst (λ (g : Geometry). IsMultipleOf g.prog end) (sym reads.geometry) ready.end_aligned;
+      erased = subst (λ (image : List ℕ). IsErased image end (end_of area - end)) (sym same_image) ready.erased;
+      within = ready.within;
+      work_size = same_length ∙ ready.work_size;
+    }
 
-  pub StandsFor-kept : {end later : ℕ} {places others : Places} {records : List Write} {state : StoreState} → later ≡ end → others ≡ places
-      → StandsFor old end places records state → StandsFor new later others records state
-  StandsFor-kept {end} {later} {places} {others} {records} {state} same_end same_places stands =
-      subst (λ (ps : Places). StandsFor new later ps records state) (sym same_places)
-      (subst (λ (e : ℕ). StandsFor new e places records state) (sym same_end) (StandsFor-read stands))
+    pub StandsFor-read : {masters : Masters} {records : List Write} {state : StoreState} → StandsFor old area end entries masters records state → StandsFor new area end entries masters records state
+    StandsFor-read {masters} {records} {state} stands = record {
+      log = moved (λ g image. IsLogOf g image area end entries masters records) stands.log;
+      map_is = stands.map_is;
+      spent = stands.spent ∙ ap (λ (g : Geometry). first_place g area + state.spent) (sym reads.geometry);
+      running = stands.running;
+      no_set = stands.no_set;
+    }
+
+  pub StandsFor-kept : {area area_now : Area} {end later : ℕ} {table table_now : TableState} {masters : Masters} {records : List Write} {state : StoreState} → area_now ≡ area → later ≡ end → table_now ≡ table
+      → StandsFor old area end table.entries masters records state → StandsFor new area_now later table_now.entries masters records state
+  StandsFor-kept {area} {area_now} {end} {later} {table} {table_now} {masters} {records} {state} same_area same_end same_table stands =
+      subst (λ (a : Area). StandsFor new a later table_now.entries masters records state) (sym same_area)
+      (subst (λ (e : ℕ). StandsFor new area e table_now.entries masters records state) (sym same_end)
+      (subst (λ (t : TableState). StandsFor new area end t.entries masters records state) (sym same_table) (StandsFor-read stands)))
+
+  pub IsPlaced-kept : {area area_now : Area} {table table_now : TableState} {key : List ℕ} {place : Place} → area_now ≡ area → table_now ≡ table
+      → IsPlaced old area table.entries key place → IsPlaced new area_now table_now.entries key place
+  IsPlaced-kept {area} {area_now} {table} {table_now} {key} {place} same_area same_table placed =
+      subst (λ (a : Area). IsPlaced new a table_now.entries key place) (sym same_area)
+      (subst (λ (t : TableState). IsPlaced new area t.entries key place) (sym same_table) (IsPlaced-read placed))
+
+  pub IsOver-read : {constants : Constants} → IsOver old.geometry constants → IsOver new.geometry constants
+  IsOver-read {constants} over = subst (λ (g : Geometry). IsOver g constants) (sym reads.geometry) over
 
 -- a call that is known as a step, and what the image stands for by it
-pub stepped : {s : FlashState} {end : ℕ} {places : Places} (constants : Constants) (records : List Write) (state : StoreState) (who : ℕ) (operation : Operation) (reply : Reply) (outcome : Outcome)
-    → plain_step constants state who operation ≡ outcome → reply ≡ outcome.reply → StandsFor s end places (grown records operation outcome.reply) outcome.state
-    → HasStepped constants records state who operation reply s end places
-stepped {s} {end} {places} constants records state who operation reply outcome step replies stands = record {
+pub stepped : {s : FlashState} {area : Area} {end : ℕ} {entries : List Entry} (constants : Constants) (masters : Masters) (records : List Write) (state : StoreState) (who : ℕ) (operation : Operation) (reply : Reply) (outcome : Outcome)
+    → plain_step constants state who operation ≡ outcome → reply ≡ outcome.reply → StandsFor s area end entries masters (grown records operation outcome.reply) outcome.state
+    → HasStepped constants masters records state who operation reply s area end entries
+stepped {s} {area} {end} {entries} constants masters records state who operation reply outcome step replies stands = record {
   reply_is = replies ∙ sym (ap (λ (o : Outcome). o.reply) step);
-  stands = subst (λ (o : Outcome). StandsFor s end places (grown records operation o.reply) o.state) (sym step) stands;
+  stands = subst (λ (o : Outcome). StandsFor s area end entries masters (grown records operation o.reply) o.state) (sym step) stands;
 }
-
--- a key without a place is not in the map
-pub unlinked : (prog : ℕ) (image : List ℕ) (end : ℕ) (key : List ℕ) (there : Option Stored) → IsLinked prog image end key None there → there ≡ None
-unlinked prog image end key None is = refl
-unlinked prog image end key (Some stored) is = absurd is
-
--- a key has a place exactly where it is in the map
-pub linked_alike : (prog : ℕ) (image : List ℕ) (end : ℕ) (key : List ℕ) (place : Option ℕ) (there : Option Stored) → IsLinked prog image end key place there → is_none there ≡ is_none place
-linked_alike prog image end key None None is = refl
-linked_alike prog image end key (Some place) (Some stored) is = refl
-linked_alike prog image end key None (Some stored) is = absurd is
-linked_alike prog image end key (Some place) None is = absurd is
-
--- what a place says of the map: the key is in it, and its record stands there
-pub record Found (prog : ℕ) (image : List ℕ) (end place : ℕ) (key : List ℕ) (there : Option Stored) : Type 0 where
-  pub stored : Stored
-  pub present : there ≡ Some stored
-  pub kept : IsKept prog image end place key stored
-
-pub linked_at : (prog : ℕ) (image : List ℕ) (end place : ℕ) (key : List ℕ) (there : Option Stored) → IsLinked prog image end key (Some place) there → Found prog image end place key there
-linked_at prog image end place key None is = absurd is
-linked_at prog image end place key (Some stored) is = record { stored = stored; present = refl; kept = is }
-
-pub linked_by : (prog : ℕ) (image : List ℕ) (end : ℕ) (key : List ℕ) (place other : Option ℕ) (there : Option Stored) → place ≡ other → IsLinked prog image end key place there → IsLinked prog image end key other there
-linked_by prog image end key place other there same is = subst (λ (p : Option ℕ). IsLinked prog image end key p there) same is
-
-when_none : (r : Result Reply NoMemory) (P : Reply → Type 0) → IsErr r → IfOk r P
-when_none (Ok x) P failed = absurd (false≢true failed)
-when_none (Err e) P failed = tt
-
--- what a get answers that read the value, or found no memory
-pub get_answer : (read : Result (Vec ℕ Global) KvError) (result : Result Reply NoMemory) (P : Reply → Type 0) (bytes : List ℕ)
-    → MatchResult read (λ value. value.items ≡ bytes) (λ error. error ≡ Memory) → IfOk read (λ value. result ≡ Ok (Value value.items)) → (read ≡ Err Memory → IsErr result)
-    → P (Value bytes) → IfOk result P
-get_answer (Ok value) result P bytes is ok memory holds = subst (λ (r : Result Reply NoMemory). IfOk r P) (sym (ok ∙ ap (λ (l : List ℕ). Ok (Value l)) is)) holds
-get_answer (Err error) result P bytes is ok memory holds = when_none result P (memory (ap Err is))
-
-is_then : (result : Result Reply NoMemory) (P : Reply → Type 0) (x : Reply) → IfOk result (λ reply. reply ≡ x) → P x → IfOk result P
-is_then (Ok reply) P x is holds = subst P (sym is) holds
-is_then (Err error) P x is holds = tt
-
--- what a part answers that read the value, or found no memory
-pub part_answer : (read : Result (Vec ℕ Global) KvError) (result : Result Reply NoMemory) (P : Reply → Type 0) (bytes : List ℕ) (offset count : ℕ)
-    → MatchResult read (λ value. value.items ≡ bytes) (λ error. error ≡ Memory)
-    → IfOk read (λ value. length value.items < offset → result ≡ Ok (Refused InvalidSize))
-    → IfOk read (λ value. offset ≤ length value.items → IfOk result (λ reply. reply ≡ Value (take count (drop offset value.items))))
-    → (read ≡ Err Memory → IsErr result)
-    → (nat_lt (length bytes) offset ≡ true → P (Refused InvalidSize)) → (nat_lt (length bytes) offset ≡ false → P (Value (take count (drop offset bytes)))) → IfOk result P
-part_answer (Ok value) result P bytes offset count is large part memory refuses gives =
-    let same : length value.items ≡ length bytes = ap length is in
-    elim (cases_lt (length value.items) offset) [
-      | inl less ↦ subst (λ (r : Result Reply NoMemory). IfOk r P) (sym (large less)) (refuses (grind (arith, nat_tests)))
-      | inr fits ↦ is_then result P _ (part fits) (subst (λ (l : List ℕ). P (Value (take count (drop offset l)))) (sym is) (gives (grind (arith, nat_tests))))
-    ]
-part_answer (Err error) result P bytes offset count is large part memory refuses gives = when_none result P (memory (ap Err is))
-
--- what an info answers that read the header
-pub info_answer : (read : Result Info KvError) (result : Reply) (flags size : ℕ) → IsOkAnd read (λ info. (info.flags.bits ≡ flags) × (info.size ≡ size))
-    → MatchResult read (λ info. result ≡ Facts info.size info.flags) (λ error. result ≡ Refused error) → result ≡ Facts size (record { bits = flags })
-info_answer (Ok info) result flags size is answers = answers ∙ (λ i. Facts (is.1 i) (record { bits = is.0 i }))
-info_answer (Err error) result flags size is answers = absurd is
 
 -- the sizes of a key
 pub key_sizes : (bytes : List ℕ) → IsTrue (is_key bytes) → (1 ≤ length bytes) × (length bytes ≤ 128)
@@ -174,6 +136,31 @@ remove_header key_size least most = record {
   remove_is_empty = λ removed. refl;
 }
 
+-- what a check of the room finds
+module _ (constants : Constants) (state : StoreState) (key : List ℕ) (size : ℕ) where
+  abbrev written : ℕ
+  written = state.spent + record_size constants.prog (length key) size
+
+  abbrev check : Bool → Bool → Result Unit KvError
+  check protected full = if protected then Err WriteProtected else if full then Err (MediaFull written constants.room) else Ok tt
+
+  abbrev protects : Bool
+  protects = is_write_once (flags_in state key)
+
+  pub check_protected : protects ≡ true → RoomCheck constants state key size (Err WriteProtected)
+  check_protected protected = λ i. check (sym protected i) (nat_lt constants.room written)
+
+  module _ (free : protects ≡ false) (need room : ℕ) (need_is : need ≡ written) (room_is : room ≡ constants.room) where
+    pub check_full : room < need → RoomCheck constants state key size (Err (MediaFull need room))
+    check_full less =
+        let full : nat_lt constants.room written ≡ true = grind (arith, nat_tests) in
+        ap (λ (n : ℕ). refused_as (MediaFull n room)) need_is ∙ ap (λ (r : ℕ). refused_as (MediaFull written r)) room_is ∙ (λ i. check (sym free i) (sym full i))
+
+    pub check_fits : need ≤ room → RoomCheck constants state key size (Ok tt)
+    check_fits fits =
+        let fine : nat_lt constants.room written ≡ false = grind (arith, nat_tests) in
+        λ i. check (sym free i) (sym fine i)
+
 -- a check that passed found nothing
 pub found_nothing : (protected full : Bool) (first second : KvError) → passed ≡ (if protected then Err first else if full then Err second else Ok tt) → (protected ≡ false) × (full ≡ false)
 found_nothing true full first second same = absurd (cc)
@@ -187,13 +174,19 @@ found_one true full first second error P same is_first is_second = subst P (sym 
 found_one false true first second error P same is_first is_second = subst P (sym (same_error error second same)) (is_second refl refl)
 found_one false false first second error P same is_first is_second = absurd (cc)
 
--- what a call did that answers done or finds no memory
-pub done_or_none : (result : Result Reply NoMemory) (Q : Type 0) (P : Reply → Type 0) → IfOk result (λ reply. reply ≡ Done) → OnOk result Q → (Q → P Done) → IfOk result P
-done_or_none (Ok reply) Q P is holds goes = subst P (sym is) (goes holds)
-done_or_none (Err error) Q P is holds goes = tt
-
 pub below_two : (n : ℕ) → n < 2 → nat_lt n 2 ≡ true
 below_two n less = grind (arith, nat_tests)
 
 pub not_above : (most n : ℕ) → n ≤ most → nat_lt most n ≡ false
 not_above most n no_more = grind (arith, nat_tests)
+
+-- a refusal that is handed on
+pub refused_by : (result : Result Reply KvError) (error : KvError) (P : Reply → Type 0) → IsErrAnd result (λ e. e ≡ error) → P (Refused error) → IfAnswered result P
+refused_by (Ok reply) error P is holds = absurd is
+refused_by (Err e) error P is holds = λ not_memory. subst (λ (x : KvError). P (Refused x)) (sym is) holds
+
+pub not_below_two : (n : ℕ) → 2 ≤ n → nat_lt n 2 ≡ false
+not_below_two n more = grind (arith, nat_tests)
+
+pub above : (most n : ℕ) → most < n → nat_lt most n ≡ true
+above most n more = grind (arith, nat_tests)

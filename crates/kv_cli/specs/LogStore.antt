@@ -1,78 +1,87 @@
 -- How the image of a device stands for the map of a store: for each key, its last record.
-use Rattle.std.specs.Prelude.{◌≡◌, ℕ, ◌+◌, ◌-◌, ◌≤◌, List, [], ◌∷◌, ◌++◌, length, Option, Some, None, Result, Ok, Err, IfSome, MatchOption, nat_lt, if◌then◌else◌}
-use Rattle.std.specs.Ordering.{nat_cmp, is_eq}
-use Rattle.std.specs.Cmp.Lexicographic.{slice_cmp}
-use Rattle.std.specs.Map.{lookup}
+use Rattle.std.specs.Prelude.{◌≡◌, ◌≢◌, ℕ, ◌+◌, ◌-◌, ◌<◌, ◌≤◌, List, [], ◌∷◌, ◌++◌, length, true, Option, Some, None, Result, Ok, Err, MatchOption, nat_lt, if◌then◌else◌}
 use Rattle.std.specs.FinMap as map
 use Rattle.std.specs.Option.{option_map_or}
 use Rattle.flash_core.specs.declared.geometry.Geometry.{Geometry}
-use Rattle.flash_core.specs.Images.{part, IsErased}
+use Rattle.flash_core.specs.Images.{IsErased}
 use Rattle.flash_core.specs.Sizes.{area_size}
 use Rattle.flash_core.specs.State.{FlashState}
 use Rattle.flash_core.specs.Up.{IsMultipleOf}
 use Rattle.kv_model.specs.FlaggedMap.{Stored}
-use Rattle.kv_model.specs.Sizes.{master_size, record_size, room_of}
+use Rattle.kv_model.specs.Sizes.{record_size, room_of}
 use Rattle.kv_model.specs.StoreState.{StoreState}
 use Rattle.kv_model.specs.PlainStep.{Constants, plain_step}
 use Rattle.kv_model.specs.Operations.{Operation, Set, Remove, operation_of}
 use Rattle.kv_model.specs.declared.call.Call.{Call}
 use Rattle.kv_model.specs.declared.call.Reply.{Reply}
-use Rattle.kv_model.specs.declared.call.Reply.TheVariants.{Done}
+use Rattle.kv_model.specs.declared.call.Reply.TheVariants.{Done, Refused}
 use Rattle.kv_model.specs.declared.error.KvError.{KvError}
-use Rattle.kv_model.specs.declared.error.KvError.TheVariants.{WriteProtected, MediaFull}
+use Rattle.kv_model.specs.declared.error.KvError.TheVariants.{Memory, WriteProtected, MediaFull}
 use Rattle.kv_model.specs.Flags.{is_write_once, remove_flags}
 use Rattle.kv_model.specs.History.{Write}
-use Rattle.record_core.specs.Record.{IsMaster}
-use Rattle.record_core.specs.Log.{IsRecordAt, AreRecords, extent, map_of}
+use Rattle.record_core.specs.Log.{applied, extent, map_of}
+use Rattle.record_core.specs.Mounts.{Contents, Holds, active_area}
+use Rattle.area_log.specs.declared.area.Area.{Area}
+use Rattle.area_log.specs.Areas.{end_of, first_place, IsAreaOf}
+use Rattle.area_log.specs.Listing.{listed}
+use Rattle.ram_table.specs.declared.table.Entry.{Entry}
+use Rattle.ram_table.specs.declared.table.Place.{Place}
+use Rattle.ram_table.specs.Find.{IsPlaceOf}
+use Rattle.tdb_mount.specs.Index.{IsTable, places_of}
+use Rattle.tdb_mount.specs.Keys.{keys_in}
+use Rattle.tdb_mount.specs.Room.{AreIn, area_of}
 use Rattle.kv_cli.specs.Writing.{image_of, IsTold}
 
--- a place for each key that has a record
-abbrev pub Places : Type 0
-Places = List (List ℕ × ℕ)
+-- all bits of a key's CRC are its hash
+abbrev pub hash_bits : ℕ
+hash_bits = 32
 
-abbrev pub place_of : Places → List ℕ → Option ℕ
-place_of places key = lookup (λ other. is_eq (slice_cmp nat_cmp key other)) places
+-- the versions of the areas that are valid
+pub record Masters : Type 0 where
+  pub first : Option ℕ
+  pub second : Option ℕ
 
--- What the store keeps at every moment: a sound device that tells its image, erased behind the last record.
-pub record IsReady (s : FlashState) (end : ℕ) (places : Places) (work : List ℕ) : Type 0 where
+-- The image holds these masters and these records, up to this end of the active area; the table has the place of each
+-- key's last record.
+pub record IsLogOf (g : Geometry) (image : List ℕ) (area : Area) (end : ℕ) (entries : List Entry) (masters : Masters) (records : List Write) : Type 0 where
+  pub number : ℕ
+  pub active : active_area masters.first masters.second ≡ Some number
+  pub area_is : area ≡ area_of g number
+  pub holds : Holds g image (record { first = masters.first; second = masters.second; records = records; end = end })
+  pub table : IsTable hash_bits (places_of (listed g.prog (first_place g area) records)) entries
+
+-- What the store keeps at every moment: a sound device that tells its image, a log in one of its areas, which is erased
+-- behind the last record, and a table of it.
+pub record IsReady (s : FlashState) (area : Area) (end : ℕ) (entries : List Entry) (work : List ℕ) : Type 0 where
   pub device : IsTold s
-  pub begin : master_size s.geometry.prog ≤ end
+  pub is_area : IsAreaOf s.geometry area
+  pub masters : Masters
+  pub records : List Write
+  pub log : IsLogOf s.geometry (image_of s) area end entries masters records
   pub end_aligned : IsMultipleOf s.geometry.prog end
-  pub end_inside : end ≤ area_size s.geometry
-  pub erased : IsErased (image_of s) end (area_size s.geometry - end)
-  pub places_inside : (key : List ℕ) → IfSome (place_of places key) (λ place. place + 24 ≤ area_size s.geometry)
+  pub erased : IsErased (image_of s) end (end_of area - end)
+  pub within : AreIn area entries
   pub work_size : length work ≡ 4096
 
--- the record by which a key has this value
-abbrev pub record_of : List ℕ → Stored → Write
-record_of key stored = record { flags = stored.flags; key = key; value = stored.bytes }
-
--- that record stands at this place, and ends at or before the end
-pub record IsKept (prog : ℕ) (image : List ℕ) (end place : ℕ) (key : List ℕ) (stored : Stored) : Type 0 where
-  pub stands : IsRecordAt prog image place (record_of key stored)
-  pub inside : place + extent prog (record_of key stored) ≤ end
-
--- the key has a place exactly where it is in the map
-abbrev pub IsLinked : ℕ → List ℕ → ℕ → List ℕ → Option ℕ → Option Stored → Type 0
-IsLinked prog image end key None None = Unit {0}
-IsLinked prog image end key (Some place) (Some stored) = IsKept prog image end place key stored
-IsLinked prog image end key None (Some stored) = ⊥
-IsLinked prog image end key (Some place) None = ⊥
-
--- Area 0 begins with a master record of version 1, and these records stand behind it up to the end; area 1 is erased.
-pub record IsLogOf (g : Geometry) (image : List ℕ) (end : ℕ) (records : List Write) : Type 0 where
-  pub master : IsMaster g.prog 1 (part image 0 (master_size g.prog))
-  pub each : AreRecords g.prog image (master_size g.prog) end records
-  pub spare : IsErased image (area_size g) (area_size g)
-
 -- The image has these records, which stand for the map of the state; it is running and has no set.
-pub record StandsFor (s : FlashState) (end : ℕ) (places : Places) (records : List Write) (state : StoreState) : Type 0 where
-  pub linked : (key : List ℕ) → IsLinked s.geometry.prog (image_of s) end key (place_of places key) (map.get state.primary key)
-  pub log : IsLogOf s.geometry (image_of s) end records
+pub record StandsFor (s : FlashState) (area : Area) (end : ℕ) (entries : List Entry) (masters : Masters) (records : List Write) (state : StoreState) : Type 0 where
+  pub log : IsLogOf s.geometry (image_of s) area end entries masters records
   pub map_is : state.primary ≡ map_of records
-  pub spent : end ≡ master_size s.geometry.prog + state.spent
+  pub spent : end ≡ first_place s.geometry area + state.spent
   pub running : state.doubt ≡ None
   pub no_set : state.open_set ≡ None
+
+-- Behind the last record of the active area of an image that has one not every byte is erased.
+pub record HasDirtyTail (g : Geometry) (image : List ℕ) (contents : Contents) : Type 0 where
+  pub number : ℕ
+  pub active : active_area contents.first contents.second ≡ Some number
+  pub dirty : IsErased image contents.end (end_of (area_of g number) - contents.end) → ⊥
+
+-- This is where the key stands among the entries, or would stand.
+pub record IsPlaced (s : FlashState) (area : Area) (entries : List Entry) (key : List ℕ) (place : Place) : Type 0 where
+  pub inside : place.at ≤ length entries
+  pub there : place.found ≡ true → place.at < length entries
+  pub is : IsPlaceOf hash_bits (keys_in s.geometry area (image_of s)) entries key place
 
 -- the constants of a store over this device
 pub record IsOver (g : Geometry) (constants : Constants) : Type 0 where
@@ -82,6 +91,10 @@ pub record IsOver (g : Geometry) (constants : Constants) : Type 0 where
 -- the flags under a key, or none
 abbrev pub flags_in : StoreState → List ℕ → ℕ
 flags_in state key = option_map_or (λ (s : Stored). s.flags) (map.get state.primary key) 0
+
+-- the state once a record was written
+abbrev pub after_record : ℕ → StoreState → Write → StoreState
+after_record prog state r = record state { spent = state.spent + extent prog r; primary = applied r state.primary }
 
 -- the state once a record of this key, flags and value was written
 abbrev pub with_record : ℕ → StoreState → List ℕ → Stored → StoreState
@@ -112,12 +125,17 @@ grown records (Remove key) Done = records ++ record { flags = remove_flags; key 
 grown records operation reply = records
 
 -- The call was a step of the plain store, and what the image stands for now is the state after it.
-pub record HasStepped (constants : Constants) (records : List Write) (state : StoreState) (who : ℕ) (operation : Operation) (reply : Reply)
-    (s : FlashState) (end : ℕ) (places : Places) : Type 0 where
+pub record HasStepped (constants : Constants) (masters : Masters) (records : List Write) (state : StoreState) (who : ℕ) (operation : Operation) (reply : Reply)
+    (s : FlashState) (area : Area) (end : ℕ) (entries : List Entry) : Type 0 where
   pub reply_is : reply ≡ (plain_step constants state who operation).reply
-  pub stands : StandsFor s end places (grown records operation (plain_step constants state who operation).reply) (plain_step constants state who operation).state
+  pub stands : StandsFor s area end entries masters (grown records operation (plain_step constants state who operation).reply) (plain_step constants state who operation).state
 
 -- the same of a call as a client made it, which is no mount
-abbrev pub CallHasStepped : Constants → List Write → StoreState → ℕ → Call → Reply → FlashState → ℕ → Places → Type 0
-CallHasStepped constants records state who call reply s end places =
-    MatchOption (operation_of call) ⊥ (λ operation. HasStepped constants records state who operation reply s end places)
+abbrev pub CallHasStepped : Constants → Masters → List Write → StoreState → ℕ → Call → Reply → FlashState → Area → ℕ → List Entry → Type 0
+CallHasStepped constants masters records state who call reply s area end entries =
+    MatchOption (operation_of call) ⊥ (λ operation. HasStepped constants masters records state who operation reply s area end entries)
+
+-- P of the reply, where there was memory: a refusal is a reply too
+abbrev pub IfAnswered : Result Reply KvError → (Reply → Type 0) → Type 0
+IfAnswered (Ok reply) P = P reply
+IfAnswered (Err error) P = error ≢ Memory → P (Refused error)

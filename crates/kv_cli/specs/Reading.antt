@@ -1,8 +1,14 @@
--- What the header of a record says.
-use Rattle.std.specs.Prelude.{◌%◌, ◌^◌, length}
-use Rattle.kv_model.specs.History.{Write}
-use Rattle.record_core.specs.declared.header.Header.{Header}
-use Rattle.record_core.specs.Record.{record_crc}
+-- What is read of a key.
+use Rattle.std.specs.Prelude.{◌≡◌, ◌⊎◌, ℕ, ◌<◌, ◌≤◌, length, take, drop, Option, Some, None, Result, Ok, Err}
+use Rattle.kv_model.specs.FlaggedMap.{Stored}
+use Rattle.kv_model.specs.declared.call.Reply.{Reply}
+use Rattle.kv_model.specs.declared.call.Reply.TheVariants.{Value}
+use Rattle.kv_model.specs.declared.error.KvError.{KvError}
+use Rattle.kv_model.specs.declared.error.KvError.TheVariants.{Memory, NotFound, InvalidSize}
 
-abbrev pub head_of : Write → Header
-head_of r = record { flags = r.flags; key_size = length r.key; value_size = length r.value; crc = record_crc r.flags r.key r.value % 2 ^ 32 }
+-- At most `count` bytes of the value from the offset on, if there is one.
+abbrev pub IsPartOf : Option Stored → ℕ → ℕ → Result Reply KvError → Type 0
+IsPartOf None offset count result = result ≡ Err NotFound
+IsPartOf (Some stored) offset count result =
+    (length stored.bytes < offset → result ≡ Err InvalidSize)
+    × (offset ≤ length stored.bytes → (result ≡ Ok (Value (take count (drop offset stored.bytes)))) ⊎ (result ≡ Err Memory))

@@ -17,6 +17,7 @@ use Rattle.script_core.specs.declared.line.Act.{Act}
 use Rattle.script_core.specs.declared.line.Act.TheVariants.{Do, Cut}
 use Rattle.script_core.specs.declared.line.Line.{Line}
 use Rattle.kv_cli.specs.Images.{image_size}
+use Rattle.kv_cli.specs.LogStore.{Masters}
 
 abbrev pub run_geometry : Geometry
 run_geometry = record { prog = 8; erase = 4096; units_per_area = 16 }
@@ -28,6 +29,10 @@ run_constants = record { hash_bits = 32; prog = 8; room = 65496 }
 -- running, with an empty map, no set, no iterator and the first vector
 abbrev pub first_state : StoreState
 first_state = fresh_state empty empty 1 0
+
+-- the masters that a format leaves
+abbrev pub first_masters : Masters
+first_masters = record { first = Some 1; second = None }
 
 -- who called what
 abbrev pub called : Entry → ℕ × Call

@@ -3,7 +3,6 @@
 
 mod inputs;
 mod laws;
-mod read;
 mod refusal;
 mod run;
 mod script;

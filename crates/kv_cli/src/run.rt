@@ -6,7 +6,7 @@ ghost use Rattle.kv_model.specs.StoreState.{StoreState};
 ghost use Rattle.kv_cli.specs.Images.{IsErasedImage};
 ghost use Rattle.kv_cli.specs.Inputs.{IsEarly};
 ghost use Rattle.kv_cli.specs.LogStore.{IsReady, IsOver, StandsFor};
-ghost use Rattle.kv_cli.specs.Replays.{IsReplayOf, run_constants, first_state};
+ghost use Rattle.kv_cli.specs.Replays.{IsReplayOf, run_constants, first_masters, first_state};
 ghost use Rattle.kv_cli.specs.Runs.{HasRun, HasGoneOn};
 
 use crate::store::LogStore;
@@ -36,14 +36,14 @@ fn run_line<F: Flash>(
     journal: &mut Journal,
     line: &Line,
 ) -> Result<(), NoMemory>
-    requires ready { IsReady (F.state store.old.flash) store.old.end store.old.places.entries store.old.work.items }
+    requires ready { IsReady (F.state store.old.flash) store.old.area store.old.end store.old.table.entries store.old.work.items }
     requires over { IsOver (F.state store.old.flash).geometry run_constants }
     requires early { IsEarly line.now }
     requires numbers { length journal.old.entries < 8192 }
-    ensures ready { IsReady (F.state store.new.flash) store.new.end store.new.places.entries store.new.work.items }
+    ensures ready { IsReady (F.state store.new.flash) store.new.area store.new.end store.new.table.entries store.new.work.items }
     ensures geometry { (F.state store.new.flash).geometry ≡ (F.state store.old.flash).geometry }
-    ensures gone_on { (records : List Write) (state : StoreState) → StandsFor (F.state store.old.flash) store.old.end store.old.places.entries records state
-        → IfOk result (λ _. HasGoneOn records state line.now journal.old.entries journal.new.entries (F.state store.new.flash) store.new.end store.new.places.entries) }
+    ensures gone_on { (records : List Write) (state : StoreState) → StandsFor (F.state store.old.flash) store.old.area store.old.end store.old.table.entries first_masters records state
+        → IfOk result (λ _. HasGoneOn records state line.now journal.old.entries journal.new.entries (F.state store.new.flash) store.new.area store.new.end store.new.table.entries) }
 {
     let Act::Do { call } = &line.act else {
         unreachable!()
@@ -61,14 +61,14 @@ fn run_lines<F: Flash>(
     store: &mut LogStore<F>,
     lines: &[Line],
 ) -> Result<Journal, NoMemory>
-    requires ready { IsReady (F.state store.old.flash) store.old.end store.old.places.entries store.old.work.items }
+    requires ready { IsReady (F.state store.old.flash) store.old.area store.old.end store.old.table.entries store.old.work.items }
     requires over { IsOver (F.state store.old.flash).geometry run_constants }
-    requires stands { StandsFor (F.state store.old.flash) store.old.end store.old.places.entries [] first_state }
+    requires stands { StandsFor (F.state store.old.flash) store.old.area store.old.end store.old.table.entries first_masters [] first_state }
     requires early { All IsEarly lines.now }
     requires count { length lines.now ≤ 8192 }
-    ensures ready { IfOk result (λ _. IsReady (F.state store.new.flash) store.new.end store.new.places.entries store.new.work.items) }
+    ensures ready { IfOk result (λ _. IsReady (F.state store.new.flash) store.new.area store.new.end store.new.table.entries store.new.work.items) }
     ensures geometry { (F.state store.new.flash).geometry ≡ (F.state store.old.flash).geometry }
-    ensures run { IfOk result (λ journal. HasRun lines.now journal.entries (F.state store.new.flash) store.new.end store.new.places.entries) }
+    ensures run { IfOk result (λ journal. HasRun lines.now journal.entries (F.state store.new.flash) store.new.area store.new.end store.new.table.entries) }
 {
     let mut journal = Journal::new(alloc);
     for line in lines {

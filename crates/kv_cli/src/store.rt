@@ -1,91 +1,145 @@
-// The store behind a replay: a log of records in the first area, and the place of the last record of each key.
-ghost use Rattle.std.specs.Prelude.{◌≡◌, ◌+◌, ◌-◌, ◌<◌, ◌≤◌, ℕ, List, [], ◌∷◌, ◌++◌, length, take, drop, Ok, Err, IfOk, IfErr, IsOk, IsErr, OnOk, MatchResult, Option, None, IsTrue};
-ghost use Rattle.std.specs.Option.{option_map_or};
+// The store behind a replay: a log of records in the active area, and a table of the last record of each key.
+ghost use Rattle.std.specs.Prelude.{◌≡◌, ◌≢◌, ◌+◌, ◌-◌, ◌<◌, ◌≤◌, ℕ, List, [], ◌∷◌, ◌++◌, length, true, false, Ok, IfOk, IfErr, IsErr, IsOkAnd, OnOk, MatchResult, IsTrue, replicate};
 ghost use Rattle.std.specs.FinMap.{empty, get};
 ghost use Rattle.flash_core.specs.Calls.{OnlyReads};
-ghost use Rattle.flash_core.specs.Images.{IsErased};
-ghost use Rattle.flash_core.specs.Sizes.{area_size, size_of};
-ghost use Rattle.kv_model.specs.FlaggedMap.{Stored};
+ghost use Rattle.flash_core.specs.Sizes.{size_of};
+ghost use Rattle.kv_model.specs.Crc.{key_hash};
 ghost use Rattle.kv_model.specs.Flags.{remove_flags};
 ghost use Rattle.kv_model.specs.History.{Write};
 ghost use Rattle.kv_model.specs.Keys.{is_key};
-ghost use Rattle.kv_model.specs.Sizes.{master_size, record_size};
+ghost use Rattle.kv_model.specs.Sizes.{record_size};
 ghost use Rattle.kv_model.specs.StoreState.{StoreState, fresh_state};
 ghost use Rattle.kv_model.specs.PlainStep.{Constants};
 ghost use Rattle.kv_model.specs.Operations.{Operation, Get, Part, Info as InfoOf, Set, Remove};
+ghost use Rattle.kv_model.specs.declared.error.KvError.TheVariants.{Memory, InvalidSize};
 ghost use Rattle.record_core.specs.Header.{IsHeader};
-ghost use Rattle.record_core.specs.Record.{record_bytes};
+ghost use Rattle.record_core.specs.Log.{IsRecordAt, map_of};
+ghost use Rattle.record_core.specs.Mounts.{Contents, Holds};
 ghost use Rattle.script_core.specs.declared.line.Act.{Act};
+ghost use Rattle.area_log.specs.Areas.{end_of, first_place};
+ghost use Rattle.area_log.specs.Reading.{Gives, IsWithin};
+ghost use Rattle.ram_table.specs.Table.{entry_at};
+ghost use Rattle.tdb_mount.specs.Format.{Leaves};
+ghost use Rattle.tdb_mount.specs.Index.{changed};
 ghost use Rattle.kv_cli.specs.Inputs.{IsEarlyAct};
-ghost use Rattle.kv_cli.specs.Writing.{image_of, HasWritten, IsTold};
-ghost use Rattle.kv_cli.specs.LogStore.{place_of, flags_in, with_record, without_record, IsReady, StandsFor, IsOver, HasStepped, CallHasStepped, RoomCheck};
+ghost use Rattle.kv_cli.specs.Reading.{IsPartOf};
+ghost use Rattle.kv_cli.specs.Writing.{image_of, IsTold};
+ghost use Rattle.kv_cli.specs.LogStore.{HasDirtyTail, Masters, IfAnswered, flags_in, after_record, IsPlaced, IsReady, StandsFor, IsOver, HasStepped, CallHasStepped, RoomCheck};
 
-use crate::read::{read_flags, read_info, read_value, zeros};
+use area_log::Area;
 use flash_core::Flash;
-use kv_model::{Bytes, Call, Flags, Info, Key, KvError, NoMemory, Reply};
-use record_core::{padded_size, size_of_record, write_master, write_record};
+use kv_model::{Bytes, Call, Flags, Got, Key, KvError, NoMemory, Reply};
+use ram_table::{Place, RamTable};
+use record_core::{padded_size, size_of_record};
 use std::alloc::Global;
-use std::collections::BTreeMap;
+use std::marker::Brand;
+use std::sync::ledger::Blank;
+use tdb_mount::{area_at, hash_of, mount_parts, place_of};
 
 const MAX_VALUE: usize = 65_572;
+
+// All bits of a key's CRC are its hash.
+const HASH_BITS: u8 = 32;
 
 // The flags of a record that takes its key out.
 const REMOVED: u32 = 0x8000_0000;
 
-// The version of the first master record.
-const FIRST_VERSION: u16 = 1;
-
 // At least the largest program unit.
-const WORK_SIZE: u32 = 4_096;
+const WORK_SIZE: usize = 4_096;
 
-/// A log of records in area 0, behind the room of a master record.
+/// Why a store can't stand on a device.
+#[derive(Clone, Copy, Debug, PartialEq, Eq)]
+pub enum Unmounted {
+    /// Behind the last record not every byte is erased.
+    DirtyTail,
+    /// There was no memory.
+    Memory,
+}
+
+/// A log of records in the active area of a device, behind the room of a master record.
 #[derive(Drop)]
 pub struct LogStore<F: Flash> {
     flash: F,
+    area: Area,
     end: u32,
-    places: BTreeMap<Key, u32>,
+    table: RamTable,
     work: Vec<u8>,
 }
 
-fn refused(error: KvError) -> Reply
-    ensures { result ≡ Reply.Refused error }
+fn zeros(alloc: Global, size: u32) -> Result<Vec<u8>, KvError>
+    ensures size_is { IfOk result (λ bytes. length bytes.items ≡ size) }
+    ensures only { IfErr result (λ error. error ≡ Memory) }
 {
-    Reply::Refused { error }
+    match vec![in alloc; 0u8; size as usize] {
+        Ok(bytes) => Ok(bytes),
+        Err(_) => Err(KvError::Memory),
+    }
 }
 
-fn copy_of(key: &Key) -> Result<Key, NoMemory>
-    ensures { IfOk result (λ copy. copy ≡ key.now) }
+// Makes room in the table for the record of a key with this place.
+fn reserve_for(table: &mut RamTable, place: Place, is_remove: bool) -> Result<(), KvError>
+    ensures entries { table.new.entries ≡ table.old.entries }
+    ensures room { OnOk result (is_remove ≡ false → place.found ≡ false → 1 ≤ table.new.spare) }
+    ensures only { IfErr result (λ error. (error ≡ Memory) × (is_remove ≡ false)) }
 {
-    Ok(key.clone()?)
+    if is_remove || place.found {
+        return Ok(());
+    }
+    match table.reserve_one() {
+        Ok(()) => Ok(()),
+        Err(_) => Err(KvError::Memory),
+    }
 }
 
-fn master_size(prog: u32) -> u32
-    requires positive { 0 < prog }
-    requires small { prog ≤ 4096 }
-    ensures { result ≡ master_size prog }
+// Takes a record at `at` into the table, whose key has this place and this hash.
+fn take_in(table: &mut RamTable, place: Place, hash: u32, at: u32, is_remove: bool)
+    requires inside { place.at ≤ length table.old.entries }
+    requires there { place.found ≡ true → place.at < length table.old.entries }
+    requires room { is_remove ≡ false → place.found ≡ false → 1 ≤ table.old.spare }
+    ensures { table.new.entries ≡ changed table.old.entries place hash at is_remove }
 {
-    padded_size(prog, 24) + padded_size(prog, 12)
+    match (is_remove, place.found) {
+        (true, true) => table.remove(place.at),
+        (true, false) => {}
+        (false, true) => table.replace(place.at, at),
+        (false, false) => table.insert(place.at, hash, at),
+    }
 }
 
 impl<F: Flash> LogStore<F> {
-    /// An empty store over an erased device: area 0 has a master record of version 1.
-    pub fn new(alloc: Global, mut flash: F) -> Result<LogStore<F>, KvError>
+    /// A store over a sound device of a valid geometry. It stands for what the device holds once it was mounted, which
+    /// formats one without a valid area. `DirtyTail` comes exactly where the bytes behind the last record of the active
+    /// area aren't all erased, unless memory is wanting before. A store is `IsReady`: its tail is erased.
+    pub fn new(alloc: Global, mut flash: F) -> Result<LogStore<F>, Unmounted>
     where
         F: Drop,
         requires told { IsTold (F.state flash) }
-        requires erased { IsErased (image_of (F.state flash)) 0 (size_of (F.state flash).geometry) }
+        ensures dirty { result ≡ Err Unmounted.DirtyTail → (contents : Contents) → Holds (F.state flash).geometry (image_of (F.state flash)) contents
+            → HasDirtyTail (F.state flash).geometry (image_of (F.state flash)) contents }
         ensures geometry { IfOk result (λ store. (F.state store.flash).geometry ≡ (F.state flash).geometry) }
-        ensures ready { IfOk result (λ store. IsReady (F.state store.flash) store.end store.places.entries store.work.items) }
-        ensures stands { IfOk result (λ store. (vector : ℕ) → StandsFor (F.state store.flash) store.end store.places.entries [] (fresh_state empty empty vector 0)) }
-        ensures only { IfErr result (λ error. error ≡ KvError.Memory) }
+        ensures ready { IfOk result (λ store. IsReady (F.state store.flash) store.area store.end store.table.entries store.work.items) }
+        ensures leaves { IfOk result (λ store. Leaves {T = Unit {0}} {E = Unit {0}} (F.state flash).geometry (image_of (F.state flash)) (image_of (F.state store.flash)) (Ok tt)) }
+        ensures stands { IfOk result (λ store. (vector : ℕ) (contents : Contents) → Holds (F.state flash).geometry (image_of (F.state store.flash)) contents
+            → StandsFor (F.state store.flash) store.area store.end store.table.entries (record { first = contents.first; second = contents.second }) contents.records
+            (fresh_state (map_of contents.records) empty vector (store.end - first_place (F.state flash).geometry store.area))) }
     {
-        let geometry = flash.geometry();
-        let mut work = zeros(alloc, WORK_SIZE)?;
-        write_master(&mut flash, 0, FIRST_VERSION, &mut work)?;
+        let parts = match mount_parts(alloc, &mut flash, HASH_BITS) {
+            Ok(parts) => parts,
+            Err(_) => return Err(Unmounted::Memory),
+        };
+        if !parts.clean {
+            return Err(Unmounted::DirtyTail);
+        }
+        let work = match vec![in alloc; 0u8; WORK_SIZE] {
+            Ok(work) => work,
+            Err(_) => return Err(Unmounted::Memory),
+        };
+        let area = area_at(flash.geometry(), parts.active);
         Ok(LogStore {
             flash,
-            end: master_size(geometry.prog),
-            places: BTreeMap::new(alloc),
+            area,
+            end: parts.end,
+            table: parts.table,
             work,
         })
     }
@@ -99,44 +153,41 @@ impl<F: Flash> LogStore<F> {
 
     /// One call of those that lines may ask for so far.
     pub fn call(&mut self, alloc: Global, call: &Call) -> Result<Reply, NoMemory>
-        requires ready { IsReady (F.state self.old.flash) self.old.end self.old.places.entries self.old.work.items }
+        requires ready { IsReady (F.state self.old.flash) self.old.area self.old.end self.old.table.entries self.old.work.items }
         requires early { IsEarlyAct (Act.Do call.now) }
-        ensures ready { IsReady (F.state self.new.flash) self.new.end self.new.places.entries self.new.work.items }
+        ensures ready { IsReady (F.state self.new.flash) self.new.area self.new.end self.new.table.entries self.new.work.items }
         ensures geometry { (F.state self.new.flash).geometry ≡ (F.state self.old.flash).geometry }
-        ensures step { (constants : Constants) (records : List Write) (state : StoreState) (who : ℕ) → IsOver (F.state self.old.flash).geometry constants
-            → StandsFor (F.state self.old.flash) self.old.end self.old.places.entries records state
-            → IfOk result (λ reply. CallHasStepped constants records state who call.now reply (F.state self.new.flash) self.new.end self.new.places.entries) }
+        ensures step { (constants : Constants) (masters : Masters) (records : List Write) (state : StoreState) (who : ℕ) → IsOver (F.state self.old.flash).geometry constants
+            → StandsFor (F.state self.old.flash) self.old.area self.old.end self.old.table.entries masters records state
+            → IfOk result (λ reply. CallHasStepped constants masters records state who call.now reply (F.state self.new.flash) self.new.area self.new.end self.new.table.entries) }
     {
         match call {
-            Call::Get { key } => Ok(self.get(alloc, key.as_slice())?),
+            Call::Get { key } => answer(self.get(alloc, key.as_slice())),
             Call::Part { key, offset, count } => {
-                Ok(self.part(alloc, key.as_slice(), *offset, *count)?)
+                answer(self.part(alloc, key.as_slice(), *offset, *count))
             }
-            Call::Info { key } => Ok(self.info(key.as_slice())),
+            Call::Info { key } => answer(self.info(key.as_slice())),
             Call::Set { key, value, flags } => {
-                Ok(self.set(key.as_slice(), value.as_slice(), *flags)?)
+                answer(self.set(key.as_slice(), value.as_slice(), *flags))
             }
-            Call::Remove { key } => Ok(self.remove(key.as_slice())),
+            Call::Remove { key } => answer(self.remove(key.as_slice())),
             _ => unreachable!(),
         }
     }
 
     /// The whole value of a key.
-    pub fn get(&mut self, alloc: Global, bytes: &[u8]) -> Result<Reply, NoMemory>
-        requires { IsReady (F.state self.old.flash) self.old.end self.old.places.entries self.old.work.items }
-        ensures ready { IsReady (F.state self.new.flash) self.new.end self.new.places.entries self.new.work.items }
+    pub fn get(&mut self, alloc: Global, bytes: &[u8]) -> Result<Reply, KvError>
+        requires ready { IsReady (F.state self.old.flash) self.old.area self.old.end self.old.table.entries self.old.work.items }
+        ensures ready { IsReady (F.state self.new.flash) self.new.area self.new.end self.new.table.entries self.new.work.items }
         ensures geometry { (F.state self.new.flash).geometry ≡ (F.state self.old.flash).geometry }
-        ensures step { (constants : Constants) (records : List Write) (state : StoreState) (who : ℕ) → IsOver (F.state self.old.flash).geometry constants
-            → StandsFor (F.state self.old.flash) self.old.end self.old.places.entries records state
-            → IfOk result (λ reply. HasStepped constants records state who (Get bytes.now) reply (F.state self.new.flash) self.new.end self.new.places.entries) }
+        ensures step { (constants : Constants) (masters : Masters) (records : List Write) (state : StoreState) (who : ℕ) → IsOver (F.state self.old.flash).geometry constants
+            → StandsFor (F.state self.old.flash) self.old.area self.old.end self.old.table.entries masters records state
+            → IfAnswered result (λ reply. HasStepped constants masters records state who (Get bytes.now) reply (F.state self.new.flash) self.new.area self.new.end self.new.table.entries) }
     {
         let Ok(key) = Key::new(bytes) else {
-            return Ok(refused(KvError::InvalidKey));
+            return Err(KvError::InvalidKey);
         };
-        match self.place_of(&key) {
-            None => Ok(refused(KvError::NotFound)),
-            Some(place) => answer(read_value(alloc, &mut self.flash, place, &key)),
-        }
+        self.read_value(alloc, &key, 0, u32::MAX)
     }
 
     /// At most `count` bytes of a key's value, from `offset` on.
@@ -146,258 +197,242 @@ impl<F: Flash> LogStore<F> {
         bytes: &[u8],
         offset: u32,
         count: u32,
-    ) -> Result<Reply, NoMemory>
-        requires { IsReady (F.state self.old.flash) self.old.end self.old.places.entries self.old.work.items }
-        ensures ready { IsReady (F.state self.new.flash) self.new.end self.new.places.entries self.new.work.items }
+    ) -> Result<Reply, KvError>
+        requires ready { IsReady (F.state self.old.flash) self.old.area self.old.end self.old.table.entries self.old.work.items }
+        ensures ready { IsReady (F.state self.new.flash) self.new.area self.new.end self.new.table.entries self.new.work.items }
         ensures geometry { (F.state self.new.flash).geometry ≡ (F.state self.old.flash).geometry }
-        ensures step { (constants : Constants) (records : List Write) (state : StoreState) (who : ℕ) → IsOver (F.state self.old.flash).geometry constants
-            → StandsFor (F.state self.old.flash) self.old.end self.old.places.entries records state
-            → IfOk result (λ reply. HasStepped constants records state who (Part bytes.now offset count) reply (F.state self.new.flash) self.new.end self.new.places.entries) }
+        ensures step { (constants : Constants) (masters : Masters) (records : List Write) (state : StoreState) (who : ℕ) → IsOver (F.state self.old.flash).geometry constants
+            → StandsFor (F.state self.old.flash) self.old.area self.old.end self.old.table.entries masters records state
+            → IfAnswered result (λ reply. HasStepped constants masters records state who (Part bytes.now offset count) reply (F.state self.new.flash) self.new.area self.new.end self.new.table.entries) }
     {
         let Ok(key) = Key::new(bytes) else {
-            return Ok(refused(KvError::InvalidKey));
+            return Err(KvError::InvalidKey);
         };
-        match self.place_of(&key) {
-            None => Ok(refused(KvError::NotFound)),
-            Some(place) => {
-                let read = read_value(alloc, &mut self.flash, place, &key);
-                answer_part(alloc, read, offset, count)
-            }
-        }
+        self.read_value(alloc, &key, offset, count)
     }
 
     /// The size and the flags of a key's value.
-    pub fn info(&mut self, bytes: &[u8]) -> Reply
-        requires { IsReady (F.state self.old.flash) self.old.end self.old.places.entries self.old.work.items }
-        ensures ready { IsReady (F.state self.new.flash) self.new.end self.new.places.entries self.new.work.items }
+    pub fn info(&mut self, bytes: &[u8]) -> Result<Reply, KvError>
+        requires ready { IsReady (F.state self.old.flash) self.old.area self.old.end self.old.table.entries self.old.work.items }
+        ensures ready { IsReady (F.state self.new.flash) self.new.area self.new.end self.new.table.entries self.new.work.items }
         ensures geometry { (F.state self.new.flash).geometry ≡ (F.state self.old.flash).geometry }
-        ensures step { (constants : Constants) (records : List Write) (state : StoreState) (who : ℕ) → IsOver (F.state self.old.flash).geometry constants
-            → StandsFor (F.state self.old.flash) self.old.end self.old.places.entries records state
-            → HasStepped constants records state who (InfoOf bytes.now) result (F.state self.new.flash) self.new.end self.new.places.entries }
+        ensures step { (constants : Constants) (masters : Masters) (records : List Write) (state : StoreState) (who : ℕ) → IsOver (F.state self.old.flash).geometry constants
+            → StandsFor (F.state self.old.flash) self.old.area self.old.end self.old.table.entries masters records state
+            → IfAnswered result (λ reply. HasStepped constants masters records state who (InfoOf bytes.now) reply (F.state self.new.flash) self.new.area self.new.end self.new.table.entries) }
     {
         let Ok(key) = Key::new(bytes) else {
-            return refused(KvError::InvalidKey);
+            return Err(KvError::InvalidKey);
         };
-        match self.place_of(&key) {
-            None => refused(KvError::NotFound),
-            Some(place) => answer_info(read_info(&mut self.flash, place)),
+        let place = self.place_of(&key)?;
+        if !place.found {
+            return Err(KvError::NotFound);
         }
+        let got = self.read(place.at, 0, &mut [])?;
+        Ok(Reply::Facts {
+            size: got.size,
+            flags: got.flags,
+        })
     }
 
     /// Sets a value.
-    pub fn set(&mut self, bytes: &[u8], value: &[u8], flags: Flags) -> Result<Reply, NoMemory>
-        requires { IsReady (F.state self.old.flash) self.old.end self.old.places.entries self.old.work.items }
-        ensures ready { IsReady (F.state self.new.flash) self.new.end self.new.places.entries self.new.work.items }
+    pub fn set(&mut self, bytes: &[u8], value: &[u8], flags: Flags) -> Result<Reply, KvError>
+        requires ready { IsReady (F.state self.old.flash) self.old.area self.old.end self.old.table.entries self.old.work.items }
+        ensures ready { IsReady (F.state self.new.flash) self.new.area self.new.end self.new.table.entries self.new.work.items }
         ensures geometry { (F.state self.new.flash).geometry ≡ (F.state self.old.flash).geometry }
-        ensures step { (constants : Constants) (records : List Write) (state : StoreState) (who : ℕ) → IsOver (F.state self.old.flash).geometry constants
-            → StandsFor (F.state self.old.flash) self.old.end self.old.places.entries records state
-            → IfOk result (λ reply. HasStepped constants records state who (Set bytes.now value.now flags.bits) reply (F.state self.new.flash) self.new.end self.new.places.entries) }
+        ensures step { (constants : Constants) (masters : Masters) (records : List Write) (state : StoreState) (who : ℕ) → IsOver (F.state self.old.flash).geometry constants
+            → StandsFor (F.state self.old.flash) self.old.area self.old.end self.old.table.entries masters records state
+            → IfAnswered result (λ reply. HasStepped constants masters records state who (Set bytes.now value.now flags.bits) reply (F.state self.new.flash) self.new.area self.new.end self.new.table.entries) }
     {
         let Ok(key) = Key::new(bytes) else {
-            return Ok(refused(KvError::InvalidKey));
+            return Err(KvError::InvalidKey);
         };
         if flags.bits >= 2 {
-            return Ok(refused(KvError::InvalidFlags));
+            return Err(KvError::InvalidFlags);
         }
         if value.len() > MAX_VALUE {
-            return Ok(refused(KvError::InvalidSize));
+            return Err(KvError::InvalidSize);
         }
-        match self.check_room(&key, value.len() as u32) {
-            Ok(()) => self.append(key, value, flags.bits),
-            Err(error) => Ok(refused(error)),
-        }
+        let place = self.place_of(&key)?;
+        self.check_room(&key, place, value.len() as u32)?;
+        self.append(&key, place, value, flags.bits)
     }
 
-    // Whether a value of this size may be set under the key.
-    fn check_room(&mut self, key: &Key, size: u32) -> Result<(), KvError>
-        requires ready { IsReady (F.state self.old.flash) self.old.end self.old.places.entries self.old.work.items }
-        requires small { size ≤ 65572 }
-        ensures ready { IsReady (F.state self.new.flash) self.new.end self.new.places.entries self.new.work.items }
-        ensures reads { OnlyReads (F.state self.old.flash) (F.state self.new.flash) }
-        ensures end { self.new.end ≡ self.old.end }
-        ensures places { self.new.places.entries ≡ self.old.places.entries }
-        ensures fits { OnOk result (self.old.end + record_size (F.state self.old.flash).geometry.prog (length key.now) size ≤ area_size (F.state self.old.flash).geometry) }
-        ensures cause { (constants : Constants) (records : List Write) (state : StoreState) → IsOver (F.state self.old.flash).geometry constants
-            → StandsFor (F.state self.old.flash) self.old.end self.old.places.entries records state → RoomCheck constants state key.now size result }
+    /// Takes a key out.
+    pub fn remove(&mut self, bytes: &[u8]) -> Result<Reply, KvError>
+        requires ready { IsReady (F.state self.old.flash) self.old.area self.old.end self.old.table.entries self.old.work.items }
+        ensures ready { IsReady (F.state self.new.flash) self.new.area self.new.end self.new.table.entries self.new.work.items }
+        ensures geometry { (F.state self.new.flash).geometry ≡ (F.state self.old.flash).geometry }
+        ensures step { (constants : Constants) (masters : Masters) (records : List Write) (state : StoreState) (who : ℕ) → IsOver (F.state self.old.flash).geometry constants
+            → StandsFor (F.state self.old.flash) self.old.area self.old.end self.old.table.entries masters records state
+            → IfAnswered result (λ reply. HasStepped constants masters records state who (Remove bytes.now) reply (F.state self.new.flash) self.new.area self.new.end self.new.table.entries) }
     {
-        if self.flags_under(key)? % 2 == 1 {
+        let Ok(key) = Key::new(bytes) else {
+            return Err(KvError::InvalidKey);
+        };
+        let place = self.place_of(&key)?;
+        if !place.found {
+            return Err(KvError::NotFound);
+        }
+        self.check_room(&key, place, 0)?;
+        self.append(&key, place, &[], REMOVED)
+    }
+
+    // At most `count` bytes of a key's value, from `offset` on.
+    fn read_value(
+        &mut self,
+        alloc: Global,
+        key: &Key,
+        offset: u32,
+        count: u32,
+    ) -> Result<Reply, KvError>
+        requires ready { IsReady (F.state self.old.flash) self.old.area self.old.end self.old.table.entries self.old.work.items }
+        ensures ready { IsReady (F.state self.new.flash) self.new.area self.new.end self.new.table.entries self.new.work.items }
+        ensures reads { OnlyReads (F.state self.old.flash) (F.state self.new.flash) }
+        ensures area { self.new.area ≡ self.old.area }
+        ensures end { self.new.end ≡ self.old.end }
+        ensures table { self.new.table ≡ self.old.table }
+        ensures part { (masters : Masters) (records : List Write) (state : StoreState) → StandsFor (F.state self.old.flash) self.old.area self.old.end self.old.table.entries masters records state
+            → IsPartOf (get state.primary key.now) offset count result }
+    {
+        let place = self.place_of(key)?;
+        if !place.found {
+            return Err(KvError::NotFound);
+        }
+        let got = self.read(place.at, offset, &mut [])?;
+        let mut value = zeros(alloc, (got.size - offset).min(count))?;
+        self.read(place.at, offset, &mut value)?;
+        Ok(Reply::Value {
+            bytes: Bytes::from_vec(value),
+        })
+    }
+
+    // Whether a value of this size may be set under the key, which has this place.
+    fn check_room(&mut self, key: &Key, place: Place, size: u32) -> Result<(), KvError>
+        requires ready { IsReady (F.state self.old.flash) self.old.area self.old.end self.old.table.entries self.old.work.items }
+        requires placed { IsPlaced (F.state self.old.flash) self.old.area self.old.table.entries key.now place }
+        requires small { size ≤ 65572 }
+        ensures ready { IsReady (F.state self.new.flash) self.new.area self.new.end self.new.table.entries self.new.work.items }
+        ensures reads { OnlyReads (F.state self.old.flash) (F.state self.new.flash) }
+        ensures area { self.new.area ≡ self.old.area }
+        ensures end { self.new.end ≡ self.old.end }
+        ensures table { self.new.table ≡ self.old.table }
+        ensures placed { IsPlaced (F.state self.new.flash) self.new.area self.new.table.entries key.now place }
+        ensures fits { OnOk result (self.old.end + record_size (F.state self.old.flash).geometry.prog (length key.now) size ≤ end_of self.old.area) }
+        ensures cause { (constants : Constants) (masters : Masters) (records : List Write) (state : StoreState) → IsOver (F.state self.old.flash).geometry constants
+            → StandsFor (F.state self.old.flash) self.old.area self.old.end self.old.table.entries masters records state → RoomCheck constants state key.now size result }
+    {
+        let flags = self.flags_at(place)?;
+        let is_protected = flags % 2 == 1;
+        if is_protected {
             return Err(KvError::WriteProtected);
         }
-        let geometry = self.flash.geometry();
-        let taken = master_size(geometry.prog);
-        let room = geometry.units_per_area * geometry.erase - taken;
-        let need = self.end - taken
-            + size_of_record(geometry.prog, key.as_slice().len() as u32, size);
+        let prog = self.flash.geometry().prog;
+        let taken = padded_size(prog, 24) + padded_size(prog, 12);
+        let room = self.area.size - taken;
+        let need = self.end - self.area.base - taken
+            + size_of_record(prog, key.as_slice().len() as u32, size);
         if need > room {
             return Err(KvError::MediaFull { need, room });
         }
         Ok(())
     }
 
-    /// Takes a key out.
-    pub fn remove(&mut self, bytes: &[u8]) -> Reply
-        requires { IsReady (F.state self.old.flash) self.old.end self.old.places.entries self.old.work.items }
-        ensures ready { IsReady (F.state self.new.flash) self.new.end self.new.places.entries self.new.work.items }
-        ensures geometry { (F.state self.new.flash).geometry ≡ (F.state self.old.flash).geometry }
-        ensures step { (constants : Constants) (records : List Write) (state : StoreState) (who : ℕ) → IsOver (F.state self.old.flash).geometry constants
-            → StandsFor (F.state self.old.flash) self.old.end self.old.places.entries records state
-            → HasStepped constants records state who (Remove bytes.now) result (F.state self.new.flash) self.new.end self.new.places.entries }
+    // The flags of a record whose key has this place, or none.
+    fn flags_at(&mut self, place: Place) -> Result<u32, KvError>
+        requires ready { IsReady (F.state self.old.flash) self.old.area self.old.end self.old.table.entries self.old.work.items }
+        requires there { place.found ≡ true → place.at < length self.old.table.entries }
+        ensures ready { IsReady (F.state self.new.flash) self.new.area self.new.end self.new.table.entries self.new.work.items }
+        ensures reads { OnlyReads (F.state self.old.flash) (F.state self.new.flash) }
+        ensures area { self.new.area ≡ self.old.area }
+        ensures end { self.new.end ≡ self.old.end }
+        ensures table { self.new.table ≡ self.old.table }
+        ensures flags { (masters : Masters) (records : List Write) (state : StoreState) (key : List ℕ) → StandsFor (F.state self.old.flash) self.old.area self.old.end self.old.table.entries masters records state
+            → IsPlaced (F.state self.old.flash) self.old.area self.old.table.entries key place → result ≡ Ok (flags_in state key) }
     {
-        let Ok(key) = Key::new(bytes) else {
-            return refused(KvError::InvalidKey);
-        };
-        if self.place_of(&key).is_none() {
-            return refused(KvError::NotFound);
+        if !place.found {
+            return Ok(0);
         }
-        match self.check_room(&key, 0) {
-            Ok(()) => self.take_out(&key),
-            Err(error) => refused(error),
-        }
+        let got = self.read(place.at, 0, &mut [])?;
+        Ok(got.flags.bits)
     }
 
-    // Writes a record at the end.
-    fn write(&mut self, key: &Key, value: &[u8], flags: u32) -> Result<(), KvError>
-        requires ready { IsReady (F.state self.old.flash) self.old.end self.old.places.entries self.old.work.items }
+    // Writes a record at the end, whose key has this place, and takes it into the table.
+    fn append(
+        &mut self,
+        key: &Key,
+        place: Place,
+        value: &[u8],
+        flags: u32,
+    ) -> Result<Reply, KvError>
+        requires ready { IsReady (F.state self.old.flash) self.old.area self.old.end self.old.table.entries self.old.work.items }
+        requires placed { IsPlaced (F.state self.old.flash) self.old.area self.old.table.entries key.now place }
         requires header { IsHeader flags (length key.now) (length value.now) }
-        requires fits { self.old.end + record_size (F.state self.old.flash).geometry.prog (length key.now) (length value.now) ≤ area_size (F.state self.old.flash).geometry }
-        ensures ready { IsReady (F.state self.new.flash) self.new.end self.new.places.entries self.new.work.items }
-        ensures done { IsOk result }
-        ensures end { self.new.end ≡ self.old.end + record_size (F.state self.old.flash).geometry.prog (length key.now) (length value.now) }
-        ensures places { self.new.places.entries ≡ self.old.places.entries }
-        ensures written { HasWritten (F.state self.old.flash) (F.state self.new.flash) self.old.end
-            (record_bytes (F.state self.old.flash).geometry.prog flags key.now value.now) }
-    {
-        let size = size_of_record(
-            self.flash.geometry().prog,
-            key.as_slice().len() as u32,
-            value.len() as u32,
-        );
-        write_record(&mut self.flash, self.end, key, value, flags, &mut self.work)?;
-        self.end += size;
-        Ok(())
-    }
-
-    // Writes the record of a key that may be set.
-    fn append(&mut self, key: Key, value: &[u8], flags: u32) -> Result<Reply, NoMemory>
-        requires ready { IsReady (F.state self.old.flash) self.old.end self.old.places.entries self.old.work.items }
-        requires header { IsHeader flags (length key) (length value.now) }
-        requires plain { flags < 2 }
-        requires fits { self.old.end + record_size (F.state self.old.flash).geometry.prog (length key) (length value.now) ≤ area_size (F.state self.old.flash).geometry }
-        requires valid { IsTrue (is_key key) }
-        ensures ready { IsReady (F.state self.new.flash) self.new.end self.new.places.entries self.new.work.items }
+        requires fits { self.old.end + record_size (F.state self.old.flash).geometry.prog (length key.now) (length value.now) ≤ end_of self.old.area }
+        requires valid { IsTrue (is_key key.now) }
+        ensures ready { IsReady (F.state self.new.flash) self.new.area self.new.end self.new.table.entries self.new.work.items }
         ensures geometry { (F.state self.new.flash).geometry ≡ (F.state self.old.flash).geometry }
         ensures done { IfOk result (λ reply. reply ≡ Reply.Done) }
-        ensures stands { (records : List Write) (state : StoreState) → StandsFor (F.state self.old.flash) self.old.end self.old.places.entries records state
-            → OnOk result (StandsFor (F.state self.new.flash) self.new.end self.new.places.entries
-            (records ++ record { flags = flags; key = key; value = value.now } ∷ []) (with_record (F.state self.old.flash).geometry.prog state key (record { flags = flags; bytes = value.now }))) }
+        ensures only { IfErr result (λ error. (error ≡ Memory) × (flags ≢ remove_flags)) }
+        ensures stands { (masters : Masters) (records : List Write) (state : StoreState) → StandsFor (F.state self.old.flash) self.old.area self.old.end self.old.table.entries masters records state
+            → OnOk result (StandsFor (F.state self.new.flash) self.new.area self.new.end self.new.table.entries masters (records ++ record { flags = flags; key = key.now; value = value.now } ∷ [])
+            (after_record (F.state self.old.flash).geometry.prog state (record { flags = flags; key = key.now; value = value.now }))) }
     {
-        self.places.insert(copy_of(&key)?, self.end)?;
-        Ok(answer_write(self.write(&key, value, flags)))
+        let is_remove = flags == REMOVED;
+        reserve_for(&mut self.table, place, is_remove)?;
+        let at = self.end;
+        let work = &mut self.work;
+        self.end = self
+            .area
+            .append_record(&mut self.flash, at, key, value, flags, work)?;
+        let hash = hash_of(key, HASH_BITS);
+        take_in(&mut self.table, place, hash, at, is_remove);
+        Ok(Reply::Done)
     }
 
-    // Writes the record that takes out a key that may be removed.
-    fn take_out(&mut self, key: &Key) -> Reply
-        requires ready { IsReady (F.state self.old.flash) self.old.end self.old.places.entries self.old.work.items }
-        requires header { IsHeader remove_flags (length key.now) 0 }
-        requires fits { self.old.end + record_size (F.state self.old.flash).geometry.prog (length key.now) 0 ≤ area_size (F.state self.old.flash).geometry }
-        requires valid { IsTrue (is_key key.now) }
-        ensures ready { IsReady (F.state self.new.flash) self.new.end self.new.places.entries self.new.work.items }
-        ensures geometry { (F.state self.new.flash).geometry ≡ (F.state self.old.flash).geometry }
-        ensures done { result ≡ Reply.Done }
-        ensures stands { (records : List Write) (state : StoreState) → StandsFor (F.state self.old.flash) self.old.end self.old.places.entries records state
-            → StandsFor (F.state self.new.flash) self.new.end self.new.places.entries
-            (records ++ record { flags = remove_flags; key = key.now; value = [] } ∷ []) (without_record (F.state self.old.flash).geometry.prog state key.now) }
-    {
-        let written = self.write(key, &[], REMOVED);
-        self.places.remove(key);
-        answer_write(written)
-    }
-
-    // The flags under a key, or none.
-    fn flags_under(&mut self, key: &Key) -> Result<u32, KvError>
-        requires { IsReady (F.state self.old.flash) self.old.end self.old.places.entries self.old.work.items }
-        ensures ready { IsReady (F.state self.new.flash) self.new.end self.new.places.entries self.new.work.items }
+    // Where the key stands in the table, or would stand.
+    fn place_of(&mut self, key: &Key) -> Result<Place, KvError>
+        requires ready { IsReady (F.state self.old.flash) self.old.area self.old.end self.old.table.entries self.old.work.items }
+        ensures ready { IsReady (F.state self.new.flash) self.new.area self.new.end self.new.table.entries self.new.work.items }
         ensures reads { OnlyReads (F.state self.old.flash) (F.state self.new.flash) }
+        ensures area { self.new.area ≡ self.old.area }
         ensures end { self.new.end ≡ self.old.end }
-        ensures places { self.new.places.entries ≡ self.old.places.entries }
-        ensures flags { (records : List Write) (state : StoreState) → StandsFor (F.state self.old.flash) self.old.end self.old.places.entries records state → result ≡ Ok (flags_in state key.now) }
+        ensures table { self.new.table ≡ self.old.table }
+        ensures placed { IsOkAnd result (IsPlaced (F.state self.new.flash) self.new.area self.new.table.entries key.now) }
     {
-        match self.place_of(key) {
-            None => Ok(0),
-            Some(place) => read_flags(&mut self.flash, place),
-        }
+        let blank = Blank::new(1);
+        let table = &self.table;
+        place_of::<Brand, F>(table, &mut self.flash, self.area, HASH_BITS, key, blank)
     }
 
-    fn place_of(&self, key: &Key) -> Option<u32>
-        ensures { result ≡ place_of self.now.places.entries key.now }
+    // Reads the value of the entry at this place of the table from the offset on, as much as there is and fits.
+    fn read(&mut self, at: u32, offset: u32, buf: &mut [u8]) -> Result<Got, KvError>
+        requires ready { IsReady (F.state self.old.flash) self.old.area self.old.end self.old.table.entries self.old.work.items }
+        requires inside { at < length self.old.table.entries }
+        ensures ready { IsReady (F.state self.new.flash) self.new.area self.new.end self.new.table.entries self.new.work.items }
+        ensures reads { OnlyReads (F.state self.old.flash) (F.state self.new.flash) }
+        ensures area { self.new.area ≡ self.old.area }
+        ensures end { self.new.end ≡ self.old.end }
+        ensures table { self.new.table ≡ self.old.table }
+        ensures within { IfOk result (IsWithin offset (length buf.old)) }
+        ensures gives { (r : Write) → IsRecordAt (F.state self.old.flash).geometry.prog (image_of (F.state self.old.flash)) (entry_at self.old.table.entries at).offset r
+            → MatchResult result (Gives r offset buf.new)
+            (λ error. (error ≡ InvalidSize) × (length r.value < offset)) }
     {
-        self.places.get(key).copied()
+        let place = self.table.entry(at).1;
+        self.area
+            .read_at(&mut self.flash, place, offset, buf, &mut self.work)
     }
 }
 
-// The reply of a get that read this.
-fn answer(read: Result<Vec<u8>, KvError>) -> Result<Reply, NoMemory>
-    ensures value { IfOk read (λ value. result ≡ Ok (Reply.Value value.items)) }
-    ensures memory { read ≡ Err KvError.Memory → IsErr result }
+// The reply of a call that was answered like this.
+fn answer(answered: Result<Reply, KvError>) -> Result<Reply, NoMemory>
+    ensures replies { IfOk answered (λ reply. result ≡ Ok reply) }
+    ensures refuses { IfErr answered (λ error. error ≢ Memory → result ≡ Ok (Reply.Refused error)) }
+    ensures memory { answered ≡ Err Memory → IsErr result }
 {
-    match read {
-        Ok(value) => Ok(Reply::Value {
-            bytes: Bytes::from_vec(value),
-        }),
+    match answered {
+        Ok(reply) => Ok(reply),
         Err(KvError::Memory) => Err(NoMemory),
-        Err(error) => Ok(refused(error)),
-    }
-}
-
-// The reply of a part whose value was read like this.
-fn answer_part(
-    alloc: Global,
-    read: Result<Vec<u8>, KvError>,
-    offset: u32,
-    count: u32,
-) -> Result<Reply, NoMemory>
-    ensures large { IfOk read (λ value. length value.items < offset → result ≡ Ok (Reply.Refused KvError.InvalidSize)) }
-    ensures part { IfOk read (λ value. offset ≤ length value.items → IfOk result (λ reply. reply ≡ Reply.Value (take count (drop offset value.items)))) }
-    ensures memory { read ≡ Err KvError.Memory → IsErr result }
-{
-    match read {
-        Ok(value) => part_of(alloc, &value, offset, count),
-        Err(KvError::Memory) => Err(NoMemory),
-        Err(error) => Ok(refused(error)),
-    }
-}
-
-// At most `count` bytes of a value, from `offset` on.
-fn part_of(alloc: Global, value: &[u8], offset: u32, count: u32) -> Result<Reply, NoMemory>
-    ensures large { length value.now < offset → result ≡ Ok (Reply.Refused KvError.InvalidSize) }
-    ensures part { offset ≤ length value.now → IfOk result (λ reply. reply ≡ Reply.Value (take count (drop offset value.now))) }
-{
-    if offset as usize > value.len() {
-        return Ok(refused(KvError::InvalidSize));
-    }
-    let rest = &value[offset as usize..];
-    let part = &rest[..rest.len().min(count as usize)];
-    Ok(Reply::Value {
-        bytes: Bytes::new(alloc, part)?,
-    })
-}
-
-// The reply of an info that read this.
-fn answer_info(read: Result<Info, KvError>) -> Reply
-    ensures { MatchResult read (λ info. result ≡ Reply.Facts info.size info.flags) (λ error. result ≡ Reply.Refused error) }
-{
-    match read {
-        Ok(Info { flags, size }) => Reply::Facts { size, flags },
-        Err(error) => refused(error),
-    }
-}
-
-// The reply of a call whose record was written like this.
-fn answer_write(written: Result<(), KvError>) -> Reply
-    ensures { MatchResult written (λ _. result ≡ Reply.Done) (λ error. result ≡ Reply.Refused error) }
-{
-    match written {
-        Ok(()) => Reply::Done,
-        Err(error) => refused(error),
+        Err(error) => Ok(Reply::Refused { error }),
     }
 }

@@ -8,8 +8,8 @@ abbrev pub invariant-loop-line : goal.invariant-loop-line
 invariant-loop-line g l =
     let s = g.F.Flash.state l.store.flash in
     record {
-      ready : IsReady s l.store.end l.store.places.entries l.store.work.items;
+      ready : IsReady s l.store.area l.store.end l.store.table.entries l.store.work.items;
       same : s.geometry ≡ (g.F.Flash.state l.initial.store.flash).geometry;
-      run : HasRun (take l.line-index l.lines) l.journal.entries s l.store.end l.store.places.entries;
+      run : HasRun (take l.line-index l.lines) l.journal.entries s l.store.area l.store.end l.store.table.entries;
       count : length l.journal.entries ≡ l.line-index;
     }

@@ -1,18 +1,28 @@
 use lib.Count
-use Rattle.std.proofs.Common.{◌≡◌, ℕ, List, [], Some, length, refl, sym, ap, subst, ◌∙◌, arith}
+use Rattle.std.proofs.Common.{◌≡◌, ℕ, ◌-◌, List, [], Some, length, refl, sym, ap, subst, ◌∙◌, arith}
 use Rattle.std.specs.Prelude.{unwrap_or}
 use Rattle.flash_core.specs.declared.geometry.Geometry.{Geometry}
 use Rattle.flash_core.specs.Sizes.{IsValid, size_of}
 use Rattle.flash_core.specs.State.{FlashState}
 use Rattle.flash_core.specs.declared.record_flash.RecordFlash.{RecordFlash}
 use Rattle.flash_core.specs.RecordDevice.{IsMemoryOf, memory_state}
+use Rattle.kv_model.specs.FlaggedMap.{FlaggedMap}
 use Rattle.kv_model.specs.Sizes.{up}
+use Rattle.kv_model.specs.StoreState.{fresh_state}
+use Rattle.area_log.specs.Areas.{first_place}
+use Rattle.std.specs.FinMap.{empty}
 use Rattle.kv_cli.specs.Images.{IsErasedImage}
 use Rattle.kv_cli.specs.Writing.{image_of, IsTold}
-use Rattle.kv_cli.specs.LogStore.{IsOver}
+use Rattle.kv_cli.specs.LogStore.{IsOver, StandsFor}
+use Rattle.flash_core.specs.Images.{IsErased}
+use Rattle.kv_cli.proofs.MountedLemmas.{erased_holds, fresh_contents}
 use Rattle.kv_cli.proofs.RunLemmas.{run_all}
-use Rattle.kv_cli.specs.Replays.{run_constants, run_geometry}
+use Rattle.kv_cli.proofs.TableLemmas.{all_records}
+use Rattle.kv_cli.specs.Replays.{first_masters, run_constants, run_geometry}
 use Rattle.kv_cli.proofs.run.run_script.Goals as goal
+
+abbrev no_keys : FlaggedMap
+no_keys = empty
 
 is_valid : IsValid run_geometry
 unfolding lib.Count.ones
@@ -42,8 +52,8 @@ is_told s image memory erased = record {
   sized = ap length (image_is s image memory.image_is) ∙ erased.size ∙ ap size_of (sym memory.geometry_is);
 }
 
-pub new-requires-2-clause-told : goal.new-requires-2-clause-told
-new-requires-2-clause-told c = is_told _ _ c.in-Ok.ensures c.requires.erased
+pub new-requires-2 : goal.new-requires-2
+new-requires-2 c = record { told = is_told _ _ c.in-Ok.ensures c.requires.erased }
 
 pub run_lines-requires-clause-over : goal.run_lines-requires-clause-over
 unfolding up
@@ -52,7 +62,21 @@ run_lines-requires-clause-over c =
     subst (λ (g : Geometry). IsOver g run_constants) (sym same) (record { prog = refl; room = refl })
 
 pub run_lines-requires-clause-stands : goal.run_lines-requires-clause-stands
-run_lines-requires-clause-stands c = c.in-Ok-new.ensures.stands 1
+run_lines-requires-clause-stands c =
+    let flash = c.in-Ok.flash in
+    let store = c.in-Ok-new.store in
+    let memory = c.in-Ok.ensures in
+    let old = memory_state flash.geometry flash.image.items in
+    let told = is_told old _ memory c.requires.erased in
+    let erased = subst (λ (l : List ℕ). IsErased l 0 (size_of flash.geometry)) (sym (image_is old c.args.image.items memory.image_is))
+    (subst (λ (g : Geometry). IsErased c.args.image.items 0 (size_of g)) (sym memory.geometry_is) c.requires.erased.erased) in
+    let holds = erased_holds flash.geometry told.valid (image_of old) told.sized erased _ c.in-Ok-new.ensures.leaves in
+    let mounted = c.in-Ok-new.ensures in
+    let s = memory_state store.flash.geometry store.flash.image.items in
+    let stands = mounted.stands 1 (fresh_contents flash.geometry) holds in
+    let at_end = (all_records s.geometry mounted.ready.device.valid (image_of s) store.area store.end store.table.entries first_masters [] stands.log).each in
+    let spent : store.end - first_place flash.geometry store.area ≡ 0 = omega (arith, at_end, ap (λ (x : Geometry). first_place x store.area) mounted.geometry) in
+    subst (λ (n : ℕ). StandsFor s store.area store.end store.table.entries first_masters [] (fresh_state no_keys no_keys 1 n)) spent stands
 
 pub returns : goal.returns
 returns c =
@@ -60,5 +84,5 @@ returns c =
     let image = c.into_image.result.items in
     let told = ap (λ (f : RecordFlash). Some f.image.items) (sym c.into_flash.ensures) ∙ c.into_image.ensures in
     let same = c.in_ok-journal.ensures.geometry ∙ c.in-Ok-new.ensures.geometry ∙ c.in-Ok.ensures.geometry_is in
-    run_all c.args.lines.now c.in_ok-journal.journal.entries (memory_state flash.geometry flash.image.items) c.run_lines.new.store.end c.run_lines.new.store.places.entries
+    run_all c.args.lines.now c.in_ok-journal.journal.entries (memory_state flash.geometry flash.image.items) c.run_lines.new.store.area c.run_lines.new.store.end c.run_lines.new.store.table.entries
     c.run_lines.new.store.work.items image same told c.in_ok-journal.ensures.ready c.in_ok-journal.ensures.run

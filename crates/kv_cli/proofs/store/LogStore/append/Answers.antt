@@ -1,30 +1,54 @@
-use Rattle.std.proofs.Common.{ℕ, List, [], ◌∷◌, ◌++◌, Some, cond, sym, ◌∙◌, ap, subst, arith}
-use Rattle.std.specs.Ordering.{nat_cmp, is_eq}
-use Rattle.std.specs.Cmp.Lexicographic.{slice_cmp}
-use Rattle.flash_core.proofs.GeometryLaws.{prog_positive}
-use Rattle.kv_model.specs.FlaggedMap.{Stored}
+use Rattle.std.proofs.Common.{ℕ, ◌==◌, List, [], ◌∷◌, ◌++◌, length, take, drop, refl, sym, ◌∙◌, ap, subst, arith}
+use Rattle.std.proofs.lemmas.List.{take_at}
+use Rattle.kv_model.specs.Flags.{remove_flags}
 use Rattle.kv_model.specs.History.{Write}
-use Rattle.record_core.proofs.LogLemmas.{extent-positive}
-use Rattle.kv_cli.specs.LogStore.{Places, place_of, StandsFor, with_record, record_of}
-use Rattle.kv_cli.proofs.AppendLemmas.{set_after, ready_with}
+use Rattle.ram_table.specs.declared.table.Entry.{Entry}
+use Rattle.tdb_mount.specs.Index.{changed}
+use Rattle.kv_cli.specs.Writing.{image_of}
+use Rattle.kv_cli.specs.LogStore.{IsReady, StandsFor, after_record}
+use Rattle.kv_cli.proofs.AppendLemmas.{ready_after, stands_after, still_told}
+use Rattle.kv_cli.proofs.TableLemmas.{begins}
 use Rattle.kv_cli.proofs.store.LogStore.append.Goals as goal
 
-pub write-requires-clause-ready : goal.write-requires-clause-ready
-write-requires-clause-ready g c =
+pub append_record-requires-clause-inside : goal.append_record-requires-clause-inside
+append_record-requires-clause-inside g c =
     let s = g.F.Flash.state c.args.self.now.flash in
-    let end = c.args.self.now.end in
-    let r : Write = record_of c.args.key (record { flags = c.args.flags; bytes = c.args.value.now }) in
-    let positive = prog_positive s.geometry c.requires.ready.device.valid in
-    ready_with c.insert.new.self.entries c.in_ok-copy_of.field-0 (Some end) (omega (arith, c.requires.fits, extent-positive s.geometry.prog (omega arith) r)) c.in_ok-insert.ensures.updates.0 c.requires.ready
+    let ready = c.requires.ready in
+    record {
+      from = omega (arith, begins s.geometry ready.device.valid (image_of s) c.args.self.now.area c.args.self.now.end c.args.self.now.table.entries ready.masters ready.records ready.log);
+      to = c.requires.fits;
+    }
+
+pub returns-clause-ready : goal.returns-clause-ready
+returns-clause-ready g c =
+    let self = c.args.self.now in
+    let s = g.F.Flash.state self.flash in
+    let new = g.F.Flash.state c.append_record.new.flash in
+    let r : Write = record { flags = c.args.flags; key = c.args.key.now; value = c.args.value.now } in
+    let done = c.in_ok-self.ensures in
+    let device = c.requires.ready.device in
+    let still = still_told device done.writes.kept in
+    let is_remove = c.args.flags == remove_flags in
+    let entries = c.take_in.ensures ∙ ap (λ (l : List Entry). changed l c.args.place c.hash_of-hash.result self.end is_remove) c.in_ok-reserve_for.ensures.entries in
+    let after = take self.work.len (c.append_record.new.work ++ drop (length c.append_record.new.work) self.work.items) in
+    let work = take_at c.append_record.new.work (drop (length c.append_record.new.work) self.work.items) self.work.len (c.append_record.auto.work ∙ c.deref_mut.ensures.len) in
+    subst (λ (l : List Entry). IsReady new self.area c.in_ok-self.field-0 l after) (sym entries)
+    (subst (λ (e : ℕ). IsReady new self.area e (changed self.table.entries c.args.place c.hash_of-hash.result self.end is_remove) after) (sym done.end)
+    (ready_after device done.writes.kept self.area self.end self.table.entries self.work.items after r (done.outside (image_of s) device.told (image_of new) still) (done.stands (image_of s) device.told (image_of new) still)
+    c.requires.fits c.args.place c.requires.placed c.hash_of-hash.result c.hash_of-hash.ensures is_remove refl c.requires.ready (ap length work ∙ c.append_record.auto.work ∙ ap length c.deref_mut.ensures.value)))
 
 pub returns-clause-stands : goal.returns-clause-stands
-returns-clause-stands g c records state stands =
-    let s = g.F.Flash.state c.args.self.now.flash in
-    let new = g.F.Flash.state c.write.new.self.flash in
-    let end = c.args.self.now.end in
-    let stored : Stored = record { flags = c.args.flags; bytes = c.args.value.now } in
-    let updated = λ (other : List ℕ). c.in_ok-insert.ensures.updates.0 other
-    ∙ ap (λ (key : List ℕ). cond (is_eq (slice_cmp nat_cmp key other)) (Some end) (place_of c.args.self.now.places.entries other)) c.in_ok-copy_of.ensures in
-    subst (λ (places : Places). StandsFor new c.write.new.self.end places (records ++ record_of c.args.key stored ∷ []) (with_record s.geometry.prog state c.args.key stored)) (sym c.write.ensures.places)
-    (subst (λ (later : ℕ). StandsFor new later c.insert.new.self.entries (records ++ record_of c.args.key stored ∷ []) (with_record s.geometry.prog state c.args.key stored)) (sym c.write.ensures.end)
-    (set_after s new end c.args.self.now.places.entries c.insert.new.self.entries c.args.key c.requires.valid c.requires.ready.device stored c.requires.plain c.requires.fits c.requires.header c.write.ensures.written updated records state stands))
+returns-clause-stands g c masters records state stands =
+    let self = c.args.self.now in
+    let s = g.F.Flash.state self.flash in
+    let new = g.F.Flash.state c.append_record.new.flash in
+    let r : Write = record { flags = c.args.flags; key = c.args.key.now; value = c.args.value.now } in
+    let done = c.in_ok-self.ensures in
+    let device = c.requires.ready.device in
+    let still = still_told device done.writes.kept in
+    let is_remove = c.args.flags == remove_flags in
+    let entries = c.take_in.ensures ∙ ap (λ (l : List Entry). changed l c.args.place c.hash_of-hash.result self.end is_remove) c.in_ok-reserve_for.ensures.entries in
+    subst (λ (l : List Entry). StandsFor new self.area c.in_ok-self.field-0 l masters (records ++ r ∷ []) (after_record s.geometry.prog state r)) (sym entries)
+    (subst (λ (e : ℕ). StandsFor new self.area e (changed self.table.entries c.args.place c.hash_of-hash.result self.end is_remove) masters (records ++ r ∷ []) (after_record s.geometry.prog state r)) (sym done.end)
+    (stands_after device done.writes.kept self.area self.end self.table.entries self.work.items self.work.items r (done.outside (image_of s) device.told (image_of new) still) (done.stands (image_of s) device.told (image_of new) still)
+    c.requires.fits c.args.place c.requires.placed c.hash_of-hash.result c.hash_of-hash.ensures is_remove refl c.requires.ready masters records state stands))

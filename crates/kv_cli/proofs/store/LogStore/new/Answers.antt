@@ -1,38 +1,46 @@
-use Rattle.std.proofs.Common.{◌++◌, List, [], ℕ, length, take, drop, unwrap_or, ◌∙◌, ap, subst, arith}
-use Rattle.std.proofs.lemmas.List.{take_at}
+use Rattle.std.proofs.Common.{rules, ◌∙◌, ap, subst}
 use Rattle.flash_core.specs.declared.geometry.Geometry.{Geometry}
-use Rattle.flash_core.specs.Images.{IsErased}
-use Rattle.flash_core.specs.Sizes.{size_of}
-use Rattle.flash_core.proofs.ImageLaws.{IsErased-within}
-use Rattle.flash_core.proofs.GeometryLaws.{size-areas}
-use Rattle.kv_model.specs.Sizes.{master_size}
+use Rattle.area_log.specs.Areas.{IsAreaOf}
+use Rattle.record_core.specs.Mounts.{active_area}
+use Rattle.tdb_mount.specs.declared.mount.MountError.{MountError}
+use Rattle.tdb_mount.specs.Room.{area_of}
 use Rattle.kv_cli.specs.Writing.{image_of}
-use Rattle.kv_cli.proofs.WritingLemmas.{up_is, when_ok}
-use Rattle.kv_cli.proofs.FreshLemmas.{fresh_ready, fresh_stands}
+use Rattle.kv_cli.proofs.AppendLemmas.{still_told}
+use Rattle.kv_cli.proofs.MountedLemmas.{leaves_any, mounted_ready, mounted_stands, tail_dirty}
+use Rattle.kv_cli.proofs.TableLemmas.{is_missing, is_there}
 use Rattle.kv_cli.proofs.store.LogStore.new.Goals as goal
-
-pub write_master-requires-clause-erased : goal.write_master-requires-clause-erased
-write_master-requires-clause-erased g c image told =
-    let s = g.F.Flash.state c.args.flash in
-    let valid = c.requires.told.valid in
-    IsErased-within image 0 (size_of s.geometry) 0 (master_size s.geometry.prog)
-    (subst (λ (bytes : List ℕ). IsErased bytes 0 (size_of s.geometry)) (ap (λ i. unwrap_or i []) told) c.requires.erased)
-    (omega arith) (omega (arith, valid.master_fits, up_is s.geometry.prog 24, up_is s.geometry.prog 12, size-areas s.geometry))
 
 pub returns-clause-ready : goal.returns-clause-ready
 returns-clause-ready g c =
+    let done = c.in-Ok.ensures in
+    let area = c.area_at-area.ensures in
+    let same = c.geometry.ensures in
+    mounted_ready c.requires.told done.kept (g.met.F.Flash.lawful c.mount_parts.new.flash) c.in-Ok.parts done.safe done.mounted (is_there c.in-Ok.parts.clean c.if-not-parts.false) c.area_at-area.result
+    (area.area ∙ ap (λ (x : Geometry). area_of x c.in-Ok.parts.active) same) (subst (λ (x : Geometry). IsAreaOf x c.area_at-area.result) same area.is_area) c.in-Ok-vec.work.items (search rules)
+
+pub returns-clause-leaves : goal.returns-clause-leaves
+returns-clause-leaves g c first second first_is second_is =
     let s = g.F.Flash.state c.args.flash in
-    let device = c.requires.told in
-    let put = when_ok c.write_master.result (c.write_master.ensures.writes.sound device.sound) (c.write_master.ensures.written (image_of s) device.told) in
-    let begins = c.master_size.ensures ∙ ap (λ (geometry : Geometry). master_size geometry.prog) c.geometry-geometry.ensures in
-    let after = take c.in_ok-work.work.len (c.write_master.new.work ++ drop (length c.write_master.new.work) c.in_ok-work.work.items) in
-    let same = take_at c.write_master.new.work (drop (length c.write_master.new.work) c.in_ok-work.work.items) c.in_ok-work.work.len (c.write_master.auto.work ∙ c.deref_mut.ensures.len) in
-    fresh_ready s (g.F.Flash.state c.write_master.new.flash) device c.requires.erased c.write_master.ensures.writes.kept put c.master_size.result begins c.new.result.entries c.new.ensures.empty after (ap length same ∙ c.write_master.auto.work ∙ ap length c.deref_mut.ensures.value ∙ c.in_ok-work.ensures.size_is)
+    let new = g.F.Flash.state c.mount_parts.new.flash in
+    let done = c.in-Ok.ensures in
+    leaves_any MountError s.geometry (image_of s) (image_of new) c.in-Ok.parts (active_area first second)
+    (done.leaves (image_of s) c.requires.told.told (image_of new) (still_told c.requires.told done.kept) first second first_is second_is)
 
 pub returns-clause-stands : goal.returns-clause-stands
-returns-clause-stands g c =
+returns-clause-stands g c vector contents holds =
+    let done = c.in-Ok.ensures in
+    let area = c.area_at-area.ensures in
+    let same = c.geometry.ensures in
+    mounted_stands c.requires.told done.kept (g.met.F.Flash.lawful c.mount_parts.new.flash) c.in-Ok.parts done.safe done.mounted (is_there c.in-Ok.parts.clean c.if-not-parts.false) c.area_at-area.result
+    (area.area ∙ ap (λ (x : Geometry). area_of x c.in-Ok.parts.active) same) (subst (λ (x : Geometry). IsAreaOf x c.area_at-area.result) same area.is_area) vector contents holds
+
+pub returns-then-not-parts-clause-dirty : goal.returns-then-not-parts-clause-dirty
+returns-then-not-parts-clause-dirty g c same contents holds =
     let s = g.F.Flash.state c.args.flash in
+    let new = g.F.Flash.state c.mount_parts.new.flash in
     let device = c.requires.told in
-    let put = when_ok c.write_master.result (c.write_master.ensures.writes.sound device.sound) (c.write_master.ensures.written (image_of s) device.told) in
-    let begins = c.master_size.ensures ∙ ap (λ (geometry : Geometry). master_size geometry.prog) c.geometry-geometry.ensures in
-    fresh_stands s (g.F.Flash.state c.write_master.new.flash) device c.requires.erased c.write_master.ensures.writes.kept put c.master_size.result begins c.new.result.entries c.new.ensures.empty
+    let done = c.in-Ok.ensures in
+    let still = still_told device done.kept in
+    tail_dirty s.geometry device.valid (image_of s) (image_of new) device.sized c.in-Ok.parts (done.mounted (image_of new) still) (is_missing c.in-Ok.parts.clean c.if-not-parts.true) contents holds
+    (λ first second first_is second_is. leaves_any MountError s.geometry (image_of s) (image_of new) c.in-Ok.parts (active_area first second)
+    (done.leaves (image_of s) device.told (image_of new) still first second first_is second_is))

@@ -1,58 +1,80 @@
-use Rattle.std.proofs.Common.{rules, ◌≡◌, ℕ, List, [], ◌∷◌, ◌++◌, Option, length, false, refl, sym, ◌∙◌, ap, subst}
+use Rattle.std.proofs.Common.{rules, ◌≡◌, ℕ, List, [], ◌∷◌, ◌++◌, Option, true, false, refl, sym, ◌∙◌, ap, subst}
 use Rattle.std.specs.Prelude.{IsTrue, is_none}
 use Rattle.std.specs.FinMap as map
 use Rattle.flash_core.specs.declared.geometry.Geometry.{Geometry}
+use Rattle.kv_model.specs.FlaggedMap.{Stored}
 use Rattle.kv_model.specs.Keys.{is_key}
 use Rattle.kv_model.specs.Flags.{remove_flags}
 use Rattle.kv_model.specs.History.{Write}
 use Rattle.kv_model.specs.Operations.{Remove}
 use Rattle.kv_model.specs.PlainStep.{plain_step}
+use Rattle.kv_model.specs.declared.call.Reply.TheVariants.{Done, Refused}
+use Rattle.kv_model.specs.declared.error.KvError.TheVariants.{InvalidKey, NotFound}
 use Rattle.kv_cli.specs.LogStore.{StandsFor, RoomCheck, without_record}
-use Rattle.kv_cli.specs.Writing.{image_of}
-use Rattle.kv_cli.proofs.StepLemmas.{refusal, remove_done, remove_protected, remove_full}
-use Rattle.kv_cli.proofs.StoreLemmas.{key_sizes, remove_header, passed, found_nothing, linked_alike, StandsFor-kept, stepped, refused_as, found_one}
+use Rattle.kv_cli.proofs.AppendLemmas.{append_answer}
+use Rattle.kv_cli.proofs.StepLemmas.{refusal, remove_absent, remove_bad_key, remove_done, remove_full, remove_protected}
+use Rattle.kv_cli.proofs.StoreLemmas.{IsOver-read, StandsFor-kept, found_nothing, found_one, key_sizes, passed, refused_as, refused_by, remove_header, stepped}
+use Rattle.kv_cli.proofs.TableLemmas.{absent, present}
 use Rattle.kv_cli.proofs.store.LogStore.remove.Goals as goal
 
-pub take_out-requires-clause-header : goal.take_out-requires-clause-header
-take_out-requires-clause-header g c =
-    let sizes = key_sizes c.in-Ok.key (subst (λ (bytes : List ℕ). IsTrue (is_key bytes)) (sym c.in-Ok.ensures.bytes) (c.in-Ok.ensures.valid.0 refl)) in
-    remove_header (length c.in-Ok.key) sizes.0 sizes.1
+pub returns-in_default-clause-step : goal.returns-in_default-clause-step
+returns-in_default-clause-step g c constants masters records state who over stands memory =
+    let bad : is_key c.args.bytes.now ≡ false = search rules in
+    stepped constants masters records state who (Remove c.args.bytes.now) (Refused InvalidKey) _ (remove_bad_key constants state who stands.running stands.no_set c.args.bytes.now bad) refl stands
 
-pub returns-in-Ok-check_room-clause-step : goal.returns-in-Ok-check_room-clause-step
-returns-in-Ok-check_room-clause-step g c constants records state who over stands =
-    let s = g.F.Flash.state c.args.self.now.flash in
-    let key = c.in-Ok.key in
+pub returns-then-not-place-clause-step : goal.returns-then-not-place-clause-step
+returns-then-not-place-clause-step g c constants masters records state who over stands memory =
+    let self = c.place_of.new.self in
     let bytes = c.args.bytes.now in
-    let new = c.take_out.new.self in
-    let placed : is_none c.place_of.result ≡ false = search rules in
-    let checked = subst (λ (k : List ℕ). RoomCheck constants state k 0 passed) c.in-Ok.ensures.bytes (c.in-Ok-check_room.ensures.cause constants records state over stands) in
-    let nothing = found_nothing _ _ _ _ checked in
-    let present : is_none (map.get state.primary bytes) ≡ false =
-    ap (λ (k : List ℕ). is_none (map.get state.primary k)) (sym c.in-Ok.ensures.bytes) ∙ linked_alike s.geometry.prog (image_of s) c.args.self.now.end key _ _ (stands.linked key)
-    ∙ ap (λ (place : Option ℕ). is_none place) (sym c.place_of.ensures) ∙ placed in
-    let step = remove_done constants state who stands.running stands.no_set bytes (c.in-Ok.ensures.valid.0 refl) present nothing.0 nothing.1 in
-    let stands_mid = StandsFor-kept c.in-Ok-check_room.ensures.reads c.in-Ok-check_room.ensures.end c.in-Ok-check_room.ensures.places stands in
-    let prog_is = ap (λ (geometry : Geometry). geometry.prog) c.in-Ok-check_room.ensures.reads.geometry ∙ sym over.prog in
-    let later = g.F.Flash.state new.flash in
-    let gone : List ℕ → Write = λ k. record { flags = remove_flags; key = k; value = [] } in
-    stepped constants records state who (Remove bytes) c.take_out.result _ step c.take_out.ensures.done
-    (subst (λ (k : List ℕ). StandsFor later new.end new.places.entries (records ++ gone k ∷ []) (without_record constants.prog state k)) c.in-Ok.ensures.bytes
-    (subst (λ (prog : ℕ). StandsFor later new.end new.places.entries (records ++ gone key ∷ []) (without_record prog state key)) prog_is (c.take_out.ensures.stands records state stands_mid)))
+    let placed = c.in_ok-place.ensures in
+    let mid = StandsFor-kept placed.reads placed.area placed.end placed.table stands in
+    let none = absent (g.F.Flash.state self.flash) placed.ready.device self.area self.end self.table.entries masters records state mid c.in-Ok.key c.in_ok-place.place placed.placed c.if-not-place.true in
+    let gone : is_none (map.get state.primary bytes) ≡ true = ap (λ (k : List ℕ). is_none (map.get state.primary k)) (sym c.in-Ok.ensures.bytes) ∙ ap (λ (there : Option Stored). is_none there) none in
+    stepped constants masters records state who (Remove bytes) (Refused NotFound) _ (remove_absent constants state who stands.running stands.no_set bytes (c.in-Ok.ensures.valid.0 refl) gone) refl mid
 
-pub returns-in-Err-clause-step : goal.returns-in-Err-clause-step
-returns-in-Err-clause-step g c constants records state who over stands =
-    let s = g.F.Flash.state c.args.self.now.flash in
-    let key = c.in-Ok.key in
+pub append-requires-clause-header : goal.append-requires-clause-header
+append-requires-clause-header g c =
+    let sizes = key_sizes c.in-Ok.key (subst (λ (bytes : List ℕ). IsTrue (is_key bytes)) (sym c.in-Ok.ensures.bytes) (c.in-Ok.ensures.valid.0 refl)) in
+    remove_header _ sizes.0 sizes.1
+
+pub returns-in_err-check_room-clause-step : goal.returns-in_err-check_room-clause-step
+returns-in_err-check_room-clause-step g c constants masters records state who over stands =
+    let self = c.place_of.new.self in
     let bytes = c.args.bytes.now in
     let valid = c.in-Ok.ensures.valid.0 refl in
-    let placed : is_none c.place_of.result ≡ false = search rules in
-    let present : is_none (map.get state.primary bytes) ≡ false =
-    ap (λ (k : List ℕ). is_none (map.get state.primary k)) (sym c.in-Ok.ensures.bytes) ∙ linked_alike s.geometry.prog (image_of s) c.args.self.now.end key _ _ (stands.linked key)
-    ∙ ap (λ (place : Option ℕ). is_none place) (sym c.place_of.ensures) ∙ placed in
-    let checked = subst (λ (k : List ℕ). RoomCheck constants state k 0 (refused_as c.in-Err.error)) c.in-Ok.ensures.bytes (c.in-Err.ensures.cause constants records state over stands) in
-    let stands_mid = StandsFor-kept c.in-Err.ensures.reads c.in-Err.ensures.end c.in-Err.ensures.places stands in
-    stepped constants records state who (Remove bytes) c.refused-in-Err.result (refusal state c.in-Err.error)
-    (found_one _ _ _ _ c.in-Err.error (λ error. plain_step constants state who (Remove bytes) ≡ refusal state error) checked
-    (λ protected. remove_protected constants state who stands.running stands.no_set bytes valid present protected)
-    (λ free full. remove_full constants state who stands.running stands.no_set bytes valid present free full))
-    c.refused-in-Err.ensures stands_mid
+    let placed = c.in_ok-place.ensures in
+    let room = c.in_err-check_room.ensures in
+    let error = c.in_err-check_room.field-0.0 in
+    let mid = StandsFor-kept placed.reads placed.area placed.end placed.table stands in
+    let found = present (g.F.Flash.state self.flash) placed.ready.device self.area self.end self.table.entries masters records state mid c.in-Ok.key c.in_ok-place.place placed.placed c.if-not-place.false in
+    let there : is_none (map.get state.primary bytes) ≡ false = ap (λ (k : List ℕ). is_none (map.get state.primary k)) (sym c.in-Ok.ensures.bytes) ∙ ap (λ (o : Option Stored). is_none o) found.present in
+    let checked = subst (λ (k : List ℕ). RoomCheck constants state k 0 (refused_as error)) c.in-Ok.ensures.bytes (room.cause constants masters records state (IsOver-read placed.reads over) mid) in
+    refused_by c.from_residual-in_err-check_room.result error _ c.from_residual-in_err-check_room.ensures.1
+    (stepped constants masters records state who (Remove bytes) (Refused error) (refusal state error)
+    (found_one _ _ _ _ error (λ e. plain_step constants state who (Remove bytes) ≡ refusal state e) checked
+    (λ protected. remove_protected constants state who stands.running stands.no_set bytes valid there protected)
+    (λ free full. remove_full constants state who stands.running stands.no_set bytes valid there free full))
+    refl (StandsFor-kept room.reads room.area room.end room.table mid))
+
+pub returns-clause-step : goal.returns-clause-step
+returns-clause-step g c constants masters records state who over stands =
+    let self = c.place_of.new.self in
+    let key = c.in-Ok.key in
+    let bytes = c.args.bytes.now in
+    let new = c.append.new.self in
+    let later = g.F.Flash.state new.flash in
+    let placed = c.in_ok-place.ensures in
+    let room = c.in_ok-check_room.ensures in
+    let mid = StandsFor-kept placed.reads placed.area placed.end placed.table stands in
+    let ready = StandsFor-kept room.reads room.area room.end room.table mid in
+    let found = present (g.F.Flash.state self.flash) placed.ready.device self.area self.end self.table.entries masters records state mid c.in-Ok.key c.in_ok-place.place placed.placed c.if-not-place.false in
+    let there : is_none (map.get state.primary bytes) ≡ false = ap (λ (k : List ℕ). is_none (map.get state.primary k)) (sym c.in-Ok.ensures.bytes) ∙ ap (λ (o : Option Stored). is_none o) found.present in
+    let checked = subst (λ (k : List ℕ). RoomCheck constants state k 0 passed) c.in-Ok.ensures.bytes (room.cause constants masters records state (IsOver-read placed.reads over) mid) in
+    let nothing = found_nothing _ _ _ _ checked in
+    let step = remove_done constants state who stands.running stands.no_set bytes (c.in-Ok.ensures.valid.0 refl) there nothing.0 nothing.1 in
+    let prog_is = ap (λ (geometry : Geometry). geometry.prog) (room.reads.geometry ∙ placed.reads.geometry) ∙ sym over.prog in
+    let gone : List ℕ → Write = λ k. record { flags = remove_flags; key = k; value = [] } in
+    append_answer c.append.result _ _ _ c.append.ensures.done c.append.ensures.only (c.append.ensures.stands masters records state ready) (λ after.
+    stepped constants masters records state who (Remove bytes) Done _ step refl
+    (subst (λ (k : List ℕ). StandsFor later new.area new.end new.table.entries masters (records ++ gone k ∷ []) (without_record constants.prog state k)) c.in-Ok.ensures.bytes
+    (subst (λ (prog : ℕ). StandsFor later new.area new.end new.table.entries masters (records ++ gone key ∷ []) (without_record prog state key)) prog_is after)))
