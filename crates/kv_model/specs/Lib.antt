@@ -1,4 +1,5 @@
 pub mod Checks
+pub mod Constants
 pub mod Crc
 pub mod Errors
 pub mod Examples
@@ -9,8 +10,13 @@ pub mod KeyOrder
 pub mod Keys
 pub mod Limits
 pub mod NextKey
+pub mod Opening
 pub mod Operations
 pub mod PlainStep
 pub mod Replies
+pub mod Rows
+pub mod Rules
 pub mod Sizes
 pub mod StoreState
+pub mod Write
+pub mod Writes

@@ -9,6 +9,7 @@ mod examples;
 mod flags;
 mod key;
 mod laws;
+mod limits;
 mod pattern;
 
 pub use bytes::{Bytes, NoMemory};
@@ -24,6 +25,7 @@ pub use laws::{
     crc_values, history_goes_on, key_order_is_total, limits_are_kept, padding_is_least,
     record_sizes,
 };
+pub use limits::{MAX_ITERATORS, MAX_KEY, MAX_VALUE};
 pub use pattern::Pattern;
 
 #[cfg(test)]
