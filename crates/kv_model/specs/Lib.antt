@@ -5,6 +5,7 @@ pub mod Examples
 pub mod FlaggedMap
 pub mod Flags
 pub mod History
+pub mod IteratorExamples
 pub mod KeyOrder
 pub mod Keys
 pub mod Limits

@@ -9,6 +9,8 @@ mod examples;
 mod flags;
 mod key;
 mod laws;
+mod next_examples;
+mod next_laws;
 mod pattern;
 
 pub use bytes::{Bytes, NoMemory};
@@ -24,6 +26,8 @@ pub use laws::{
     crc_values, history_goes_on, key_order_is_total, limits_are_kept, padding_is_least,
     record_sizes,
 };
+pub use next_examples::{hash_bits_order_keys, prefix_limits_keys};
+pub use next_laws::next_key_is_least;
 pub use pattern::Pattern;
 
 #[cfg(test)]
