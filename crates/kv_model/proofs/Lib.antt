@@ -5,3 +5,4 @@ pub mod MapLemmas
 pub mod NextKeyLemmas
 pub mod OrderLemmas
 pub mod SizesLemmas
+pub mod UsedLemmas

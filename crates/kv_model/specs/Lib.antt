@@ -7,6 +7,7 @@ pub mod Flags
 pub mod History
 pub mod IteratorExamples
 pub mod KeyOrder
+pub mod KeySizes
 pub mod Keys
 pub mod Limits
 pub mod NextKey

@@ -12,6 +12,7 @@ mod laws;
 mod next_examples;
 mod next_laws;
 mod pattern;
+mod size_laws;
 
 pub use bytes::{Bytes, NoMemory};
 pub use call::{Call, Entry, Got, Info, Reply};
@@ -29,6 +30,7 @@ pub use laws::{
 pub use next_examples::{hash_bits_order_keys, prefix_limits_keys};
 pub use next_laws::next_key_is_least;
 pub use pattern::Pattern;
+pub use size_laws::{used_counts_each_key, used_of_two_keys};
 
 #[cfg(test)]
 mod tests {
