@@ -1,18 +1,17 @@
 -- The next key of an iterator is the least key that it has yet to give.
-use Rattle.std.proofs.Common.{◌≡◌, ◌⊎◌, ◌↔◌, ℕ, Bool, true, false, cond, ◌&&◌, ◌||◌, List, [], ◌∷◌, ◌++◌, map, length, drop, take, Option, Some, None, IfSome, Ordering, Less, Equal, Greater, nat_eq, nat_cmp, is_lt, is_eq, filter, inl, inr, refl, sym, ◌∙◌, ap, subst, true≢false}
+use Rattle.std.proofs.Common.{◌≡◌, ◌⊎◌, ◌↔◌, ℕ, Bool, true, false, cond, ◌&&◌, ◌||◌, List, [], ◌∷◌, length, drop, Option, Some, None, IfSome, Ordering, Less, Equal, Greater, nat_eq, nat_cmp, is_lt, is_eq, filter, inl, inr, refl, sym, ◌∙◌, ap, subst, true≢false}
 use Rattle.std.specs.Prelude.{if◌then◌else◌}
 use Rattle.std.specs.List.{starts_with, list_any}
 use Rattle.std.specs.Ordering.{eq_by_cmp, ordering_then, ordering_reverse}
 use Rattle.std.specs.Cmp.{tied_itself, first_so, second_so, Equal-is}
 use Rattle.std.specs.Cmp.Lexicographic.{slice_cmp, nat_list_cmp_total}
-use Rattle.std.specs.FinMap.{keys, contains_key, contains_key-keys, nat_cmp-IsAntisymmetric, slice_cmp-IsAntisymmetric, IsAntisymmetric}
+use Rattle.std.specs.FinMap.{keys, contains_key-keys, nat_cmp-IsAntisymmetric, slice_cmp-IsAntisymmetric, IsAntisymmetric}
 use Rattle.std.proofs.lemmas.Bool.Decides.{Decides-eqb}
 use Rattle.std.proofs.lemmas.Slice.Eq.{starts_is}
-use Rattle.kv_model.specs.Crc.{key_hash}
 use Rattle.kv_model.specs.FlaggedMap.{FlaggedMap}
 use Rattle.kv_model.specs.KeyOrder.{key_order, is_below}
 use Rattle.kv_model.specs.StoreState.{Position}
-use Rattle.kv_model.specs.NextKey.{lesser_key, least_key, is_above_last, next_key, HasPrefix, IsAhead, IsNext}
+use Rattle.kv_model.specs.NextKey.{lesser_key, least_key, is_above_last, next_key, IsAhead, IsNext}
 use Rattle.kv_model.proofs.OrderLemmas.{key_order_total}
 
 pub bytes_same : IsAntisymmetric (slice_cmp nat_cmp)

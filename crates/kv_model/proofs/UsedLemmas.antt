@@ -1,11 +1,10 @@
 -- What a map uses is the sum of the sizes of its keys: how it changes by an insert and a remove.
-use Rattle.std.proofs.Common.{◌≡◌, ℕ, ◌+◌, ◌≤◌, Bool, true, false, cond, not, ◌&&◌, T, List, [], ◌∷◌, length, Option, Some, None, Ordering, Less, Equal, Greater, nat_cmp, is_lt, is_eq, refl, sym, ◌∙◌, ap, subst, arith, true≢false}
+use Rattle.std.proofs.Common.{◌≡◌, ℕ, ◌+◌, ◌≤◌, Bool, true, false, cond, not, ◌&&◌, T, List, [], ◌∷◌, length, Option, Some, None, Ordering, Less, Equal, Greater, nat_cmp, is_lt, is_eq, refl, ◌∙◌, ap, arith, true≢false}
 use Rattle.std.specs.Option.{option_map_or}
-use Rattle.std.specs.Ordering.{eq_by_cmp, ordering_reverse}
-use Rattle.std.specs.Cmp.{IsTotalOrder, tied_back, alike_right}
+use Rattle.std.specs.Ordering.{ordering_reverse}
 use Rattle.std.specs.Cmp.Lexicographic.{slice_cmp, nat_list_cmp_total}
-use Rattle.std.specs.FinMap.{empty, insert, remove, get, entries, entries_sorted, entries-insert, get-entries}
-use Rattle.std.specs.FinMap.Entries.{find, put, is_sorted, below_all, by_order, where_key}
+use Rattle.std.specs.FinMap.{empty, insert, remove, entries, entries_sorted, entries-insert, get-entries}
+use Rattle.std.specs.FinMap.Entries.{find, put, is_sorted, below_all, by_order}
 use Rattle.kv_model.specs.FlaggedMap.{FlaggedMap, Stored}
 use Rattle.kv_model.specs.Sizes.{record_size, used, used_by}
 use Rattle.kv_model.specs.KeySizes.{key_size}
