@@ -6,7 +6,9 @@ pub mod Examples
 pub mod FlaggedMap
 pub mod Flags
 pub mod History
+pub mod IteratorExamples
 pub mod KeyOrder
+pub mod KeySizes
 pub mod Keys
 pub mod Limits
 pub mod NextKey

@@ -10,7 +10,10 @@ mod flags;
 mod key;
 mod laws;
 mod limits;
+mod next_examples;
+mod next_laws;
 mod pattern;
+mod size_laws;
 
 pub use bytes::{Bytes, NoMemory};
 pub use call::{Call, Entry, Got, Info, Reply};
@@ -26,7 +29,10 @@ pub use laws::{
     record_sizes,
 };
 pub use limits::{MAX_ITERATORS, MAX_KEY, MAX_VALUE};
+pub use next_examples::{hash_bits_order_keys, prefix_limits_keys};
+pub use next_laws::next_key_is_least;
 pub use pattern::Pattern;
+pub use size_laws::{used_counts_each_key, used_of_two_keys};
 
 #[cfg(test)]
 mod tests {
