@@ -4,5 +4,5 @@ pub mod LimitLemmas
 pub mod MapLemmas
 pub mod NextKeyLemmas
 pub mod OrderLemmas
-pub mod SizesLemmas
+pub mod RoomLemmas
 pub mod UsedLemmas

@@ -61,11 +61,11 @@ some_is_not_none : {X : Type 0} (x : X) → Some x ≡ None → ⊥
 some_is_not_none x h = cc h
 
 -- nothing refuses, so the first check does not, and none behind it
-unrefused : (applies : Bool) (refusal : KvError) (others : Option KvError) → (if applies then Some refusal else others) ≡ None → (applies ≡ false) × (others ≡ None)
+pub unrefused : (applies : Bool) (refusal : KvError) (others : Option KvError) → (if applies then Some refusal else others) ≡ None → (applies ≡ false) × (others ≡ None)
 unrefused true refusal others none = absurd (some_is_not_none refusal none)
 unrefused false refusal others none = (refl, none)
 
-is_not : (b : Bool) → not b ≡ false → b ≡ true
+pub is_not : (b : Bool) → not b ≡ false → b ≡ true
 is_not true h = refl
 is_not false h = sym h
 
@@ -73,7 +73,7 @@ and_true : (b : Bool) → b && true ≡ false → b ≡ false
 and_true true h = h
 and_true false h = h
 
-at_most : (a b : ℕ) → nat_lt a b ≡ false → b ≤ a
+pub at_most : (a b : ℕ) → nat_lt a b ≡ false → b ≤ a
 at_most a b h = ltb-false a b h
 
 module _ (constants : Constants) (state : StoreState) (who : ℕ) (old : IsPlain state) where
@@ -329,18 +329,18 @@ mount_keeps_limits old maps plain there = record {
 other_doubt : (state : StoreState) (doubt : Option Doubt) → IsPlain state → IsPlain (record state { doubt = doubt })
 other_doubt state doubt plain = record { within = record { primary = plain.within.primary; rollback = plain.within.rollback; open_set = plain.within.open_set; iterators = plain.within.iterators; next_vector = plain.within.next_vector }; no_rollback = plain.no_rollback }
 
-one_of_three : {X : Type 0} (P : X → Type 0) (a b c x : X) → P a → P b → P c → (k : ℕ) → k < 3 → slice_index_or (a ∷ b ∷ c ∷ []) k x ≡ x → P x
+pub one_of_three : {X : Type 0} (P : X → Type 0) (a b c x : X) → P a → P b → P c → (k : ℕ) → k < 3 → slice_index_or (a ∷ b ∷ c ∷ []) k x ≡ x → P x
 one_of_three P a b c x first second third zero below is = subst P is first
 one_of_three P a b c x first second third (suc zero) below is = subst P is second
 one_of_three P a b c x first second third (suc (suc zero)) below is = subst P is third
 one_of_three P a b c x first second third (suc (suc (suc k))) below is = absurd (omega (arith, below))
 
 -- a plain store gives no number back
-same_number : (found : Option Doubt) (next : ℕ) → option_map_or (λ (d : Doubt). next) found next ≡ next
+pub same_number : (found : Option Doubt) (next : ℕ) → option_map_or (λ (d : Doubt). next) found next ≡ next
 same_number None next = refl
 same_number (Some doubt) next = refl
 
-before_keeps_limits : (constants : Constants) (state : StoreState) → IsPlain state → IsPlain (before_doubt (plain_rules constants) state)
+pub before_keeps_limits : (constants : Constants) (state : StoreState) → IsPlain state → IsPlain (before_doubt (plain_rules constants) state)
 before_keeps_limits constants state plain =
     subst (λ (n : ℕ). IsPlain (record state { next_vector = n; doubt = None })) (sym (same_number state.doubt state.next_vector)) (other_doubt state None plain)
 

@@ -16,10 +16,10 @@ use Rattle.kv_model.specs.Rules.{Outcome}
 use Rattle.kv_model.specs.NextKey.{next_key}
 
 module _ (state : StoreState) (who : ℕ) where
-  abbrev owns_set : Bool
+  abbrev pub owns_set : Bool
   owns_set = option_map_or (λ (s : OpenSet). s.owner == who) state.open_set false
 
-  abbrev set_owner : ℕ
+  abbrev pub set_owner : ℕ
   set_owner = option_map_or (λ (s : OpenSet). s.owner) state.open_set 0
 
   -- how many bytes the active set wants, and has

@@ -10,8 +10,8 @@ ghost use Rattle.kv_model.specs.KeyOrder.{key_order};
 ghost use Rattle.kv_model.specs.StoreState.{StoreState, fresh_state};
 ghost use Rattle.kv_model.specs.Constants.{Constants};
 ghost use Rattle.kv_model.specs.Rules.{Rules, Outcome};
-ghost use Rattle.kv_model.specs.History.{Runs, Follows};
-ghost use Rattle.kv_model.specs.Limits.{IsPlain};
+ghost use Rattle.kv_model.specs.History.{AreNumbered, Runs, Follows};
+ghost use Rattle.kv_model.specs.Limits.{HasRoom, IsPlain};
 ghost use Rattle.kv_model.specs.Operations.{Operation};
 ghost use Rattle.kv_model.specs.PlainStep.{plain_rules, plain_step};
 
@@ -24,13 +24,6 @@ pub fn crc_values()
     ensures hashes_of_4_bits { (key_hash 4 (codes "a") ≡ 12) × (key_hash 4 (codes "b") ≡ 6) × (key_hash 4 (codes "c") ≡ 0) }
     ensures hashes_of_8_bits { (key_hash 8 (codes "a") ≡ 188) × (key_hash 8 (codes "b") ≡ 6) × (key_hash 8 (codes "c") ≡ 144) }
     ensures hash_of_no_bits { key_hash 0 (codes "a") ≡ 0 }
-{}
-
-/// Padding goes to the least multiple of the program unit that is not less than the size.
-pub fn padding_is_least()
-    ensures not_less { (prog x : ℕ) → 1 ≤ prog → x ≤ up prog x }
-    ensures multiple { (prog x : ℕ) → up prog x % prog ≡ 0 }
-    ensures least { (prog x m : ℕ) → 1 ≤ prog → x ≤ m * prog → up prog x ≤ m * prog }
 {}
 
 /// Sizes of records, masters and rooms in bytes, worked out by hand.
@@ -47,10 +40,14 @@ pub fn key_order_is_total()
     ensures total { (hash_bits : ℕ) → IsTotalOrder (key_order hash_bits) }
 {}
 
-/// A history goes on by one entry that follows from its last state.
+/// A history goes on by one entry that follows from its last state and has the next numbers.
 pub fn history_goes_on()
-    ensures { (rules : Rules) (old mid new : StoreState) (entries : List Entry) (entry : Entry)
-        → Runs rules old entries mid → Follows rules mid entry new → Runs rules old (entries ++ entry ∷ []) new }
+    ensures runs { (rules : Rules) (old mid new : StoreState) (entries : List Entry) (entry : Entry)
+        → Runs rules old entries mid → Follows rules mid entry new
+        → Runs rules old (entries ++ entry ∷ []) new }
+    ensures numbered { (entries : List Entry) (entry : Entry)
+        → AreNumbered [] entries → AreNumbered entries (entry ∷ [])
+        → AreNumbered [] (entries ++ entry ∷ []) }
 {}
 
 /// A plain store begins within the limits of a state, and every call, fault and mount keeps them.
@@ -61,4 +58,17 @@ pub fn limits_are_kept()
         → IsPlain state → IsPlain (plain_step constants state who operation).state }
     ensures history { (constants : Constants) (old new : StoreState) (entry : Entry)
         → IsPlain old → Follows (plain_rules constants) old entry new → IsPlain new }
+{}
+
+/// What a plain store holds, and the set that is active with it, fits in the room, from an empty store on and through
+/// every call, fault and mount.
+pub fn room_is_kept()
+    ensures fresh { (constants : Constants) (next_vector : ℕ)
+        → HasRoom constants (fresh_state empty empty next_vector) }
+    ensures step { (constants : Constants) (state : StoreState) (who : ℕ) (operation : Operation)
+        → IsPlain state → HasRoom constants state
+        → HasRoom constants (plain_step constants state who operation).state }
+    ensures history { (constants : Constants) (old new : StoreState) (entry : Entry)
+        → IsPlain old → HasRoom constants old → Follows (plain_rules constants) old entry new
+        → HasRoom constants new }
 {}
