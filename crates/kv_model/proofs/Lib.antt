@@ -6,3 +6,4 @@ pub mod NextKeyLemmas
 pub mod OrderLemmas
 pub mod RoomLemmas
 pub mod UsedLemmas
+pub mod WritesLemmas

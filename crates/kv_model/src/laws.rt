@@ -1,6 +1,6 @@
 // Laws of the definitions, and facts that tie them to values worked out by hand. Each is a function with nothing to do:
 // its contract is the law.
-ghost use Rattle.std.specs.Prelude.{◌≡◌, ◌+◌, ◌*◌, ◌%◌, ◌<◌, ◌≤◌, ◌^◌, ◌++◌, [], ◌∷◌, ℕ, List, codes};
+ghost use Rattle.std.specs.Prelude.{◌≡◌, ◌+◌, ◌*◌, ◌%◌, ◌<◌, ◌≤◌, ◌^◌, ◌++◌, [], ◌∷◌, ℕ, List, All, codes};
 ghost use Rattle.std.specs.Cmp.{IsTotalOrder};
 ghost use Rattle.std.specs.FinMap.{empty};
 ghost use Rattle.kv_model.specs.declared.call.Entry.{Entry};
@@ -11,6 +11,8 @@ ghost use Rattle.kv_model.specs.StoreState.{StoreState, fresh_state};
 ghost use Rattle.kv_model.specs.Constants.{Constants};
 ghost use Rattle.kv_model.specs.Rules.{Rules, Outcome};
 ghost use Rattle.kv_model.specs.History.{AreNumbered, Runs, Follows};
+ghost use Rattle.kv_model.specs.Write.{Write, map_of};
+ghost use Rattle.kv_model.specs.Writes.{IsOrdinary, NoRemoveBegun, writes};
 ghost use Rattle.kv_model.specs.Limits.{HasRoom, IsPlain};
 ghost use Rattle.kv_model.specs.Operations.{Operation};
 ghost use Rattle.kv_model.specs.PlainStep.{plain_rules, plain_step};
@@ -71,4 +73,13 @@ pub fn room_is_kept()
     ensures history { (constants : Constants) (old new : StoreState) (entry : Entry)
         → IsPlain old → HasRoom constants old → Follows (plain_rules constants) old entry new
         → HasRoom constants new }
+{}
+
+/// The records of a plain store, with those that a history writes behind them, stand for the map that it leaves, where
+/// nothing is reset or mounted and no write fails.
+pub fn writes_stand_for_the_map()
+    ensures { (constants : Constants) (old new : StoreState) (records : List Write) (entries : List Entry)
+        → IsPlain old → NoRemoveBegun old → All IsOrdinary entries
+        → Runs (plain_rules constants) old entries new → old.primary ≡ map_of records
+        → new.primary ≡ map_of (records ++ writes old.open_set entries) }
 {}

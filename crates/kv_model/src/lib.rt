@@ -26,7 +26,7 @@ pub use flags::Flags;
 pub use key::{Key, is_key, is_prefix};
 pub use laws::{
     crc_values, history_goes_on, key_order_is_total, limits_are_kept, record_sizes,
-    room_is_kept,
+    room_is_kept, writes_stand_for_the_map,
 };
 pub use limits::{MAX_ITERATORS, MAX_KEY, MAX_VALUE};
 pub use next_examples::{hash_bits_order_keys, prefix_limits_keys};
