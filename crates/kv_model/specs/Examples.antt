@@ -1,16 +1,16 @@
 -- The stores of the worked examples: a program unit of 8 bytes, and areas of 65,536.
-use Rattle.std.specs.Prelude.{ℕ, List, [], ◌∷◌, Option, codes}
+use Rattle.std.specs.Prelude.{ℕ, List, [], ◌∷◌, Option, None, codes}
 use Rattle.std.specs.FinMap.{empty, insert}
 use Rattle.kv_model.specs.FlaggedMap.{FlaggedMap}
 use Rattle.kv_model.specs.Sizes.{room_of}
 use Rattle.kv_model.specs.StoreState.{StoreState, Position, fresh_state}
-use Rattle.kv_model.specs.PlainStep.{Constants}
+use Rattle.kv_model.specs.Constants.{Constants}
 
 abbrev pub example_store : Constants
-example_store = record { hash_bits = 32; prog = 8; room = room_of 8 65536 }
+example_store = record { hash_bits = 32; prog = 8; room = room_of 8 65536; secure = None }
 
 abbrev pub empty_store : StoreState
-empty_store = fresh_state empty empty 1 0
+empty_store = fresh_state empty empty 1
 
 abbrev pub k : List ℕ
 k = codes "k"

@@ -1,4 +1,5 @@
 pub mod Checks
+pub mod Constants
 pub mod Crc
 pub mod Errors
 pub mod Examples
@@ -12,8 +13,13 @@ pub mod KeySizes
 pub mod Keys
 pub mod Limits
 pub mod NextKey
+pub mod Opening
 pub mod Operations
 pub mod PlainStep
 pub mod Replies
+pub mod Rows
+pub mod Rules
 pub mod Sizes
 pub mod StoreState
+pub mod Write
+pub mod Writes

@@ -8,10 +8,12 @@ ghost use Rattle.kv_model.specs.Crc.{crc_of, key_hash};
 ghost use Rattle.kv_model.specs.Sizes.{up, record_size, master_size, room_of};
 ghost use Rattle.kv_model.specs.KeyOrder.{key_order};
 ghost use Rattle.kv_model.specs.StoreState.{StoreState, fresh_state};
-ghost use Rattle.kv_model.specs.History.{Rules, Runs, Follows, plain_rules};
+ghost use Rattle.kv_model.specs.Constants.{Constants};
+ghost use Rattle.kv_model.specs.Rules.{Rules, Outcome};
+ghost use Rattle.kv_model.specs.History.{Runs, Follows};
 ghost use Rattle.kv_model.specs.Limits.{IsPlain};
 ghost use Rattle.kv_model.specs.Operations.{Operation};
-ghost use Rattle.kv_model.specs.PlainStep.{Constants, Outcome, plain_step};
+ghost use Rattle.kv_model.specs.PlainStep.{plain_rules, plain_step};
 
 /// The CRC is the complement of the usual CRC-32, whose published values these are, and hashes are its low bits.
 pub fn crc_values()
@@ -53,7 +55,8 @@ pub fn history_goes_on()
 
 /// A plain store begins within the limits of a state, and every call, fault and mount keeps them.
 pub fn limits_are_kept()
-    ensures fresh { (next_vector spent : ℕ) → next_vector < 2 ^ 64 → IsPlain (fresh_state empty empty next_vector spent) }
+    ensures fresh { (next_vector : ℕ) → next_vector < 2 ^ 64
+        → IsPlain (fresh_state empty empty next_vector) }
     ensures step { (constants : Constants) (state : StoreState) (who : ℕ) (operation : Operation)
         → IsPlain state → IsPlain (plain_step constants state who operation).state }
     ensures history { (constants : Constants) (old new : StoreState) (entry : Entry)

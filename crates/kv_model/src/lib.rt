@@ -9,6 +9,7 @@ mod examples;
 mod flags;
 mod key;
 mod laws;
+mod limits;
 mod next_examples;
 mod next_laws;
 mod pattern;
@@ -27,6 +28,7 @@ pub use laws::{
     crc_values, history_goes_on, key_order_is_total, limits_are_kept, padding_is_least,
     record_sizes,
 };
+pub use limits::{MAX_ITERATORS, MAX_KEY, MAX_VALUE};
 pub use next_examples::{hash_bits_order_keys, prefix_limits_keys};
 pub use next_laws::{iterations_give_each_key_once, next_key_is_least};
 pub use pattern::Pattern;
