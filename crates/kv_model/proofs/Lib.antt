@@ -1,5 +1,6 @@
 pub mod CrcLemmas
 pub mod HistoryLemmas
+pub mod IterationLemmas
 pub mod LimitLemmas
 pub mod MapLemmas
 pub mod NextKeyLemmas

@@ -6,6 +6,7 @@ pub mod Examples
 pub mod FlaggedMap
 pub mod Flags
 pub mod History
+pub mod Iterations
 pub mod IteratorExamples
 pub mod KeyOrder
 pub mod KeySizes
