@@ -1,5 +1,5 @@
 -- How a history goes on.
-use Rattle.std.proofs.Common.{◌≡◌, List, [], ◌∷◌, ◌++◌, refl, sym, ◌∙◌, subst, append_assoc}
+use Rattle.std.proofs.Common.{◌≡◌, List, [], ◌∷◌, ◌++◌, refl, sym, subst, append_assoc}
 use Rattle.std.proofs.lemmas.List.{append-nil}
 use Rattle.kv_model.specs.declared.call.Entry.{Entry}
 use Rattle.kv_model.specs.StoreState.{StoreState}

@@ -1,6 +1,6 @@
 -- Every step of a plain store keeps the limits of its state.
-use Rattle.std.proofs.Common.{◌≡◌, ℕ, ◌+◌, ◌-◌, ◌/◌, ◌%◌, ◌^◌, ◌<◌, ◌≤◌, Bool, true, false, not, ◌&&◌, cond, nat_lt, nat_le, List, [], ◌∷◌, ◌++◌, length, length-append, Option, Some, None, IfSome, MatchBool, MatchOption, slice_index_or, zero, suc, inl, inr, refl, sym, ◌∙◌, ap, subst, arith}
-use Rattle.std.specs.Prelude.{is_some, ◌==◌, if◌then◌else◌}
+use Rattle.std.proofs.Common.{◌≡◌, ℕ, ◌+◌, ◌-◌, ◌^◌, ◌<◌, ◌≤◌, Bool, true, false, not, ◌&&◌, cond, nat_lt, nat_le, List, [], ◌∷◌, ◌++◌, length, length-append, Option, Some, None, IfSome, MatchBool, MatchOption, slice_index_or, zero, suc, inl, inr, refl, sym, ◌∙◌, ap, subst, arith}
+use Rattle.std.specs.Prelude.{is_some, if◌then◌else◌}
 use Rattle.std.specs.Option.{option_map_or}
 use Rattle.std.specs.Ordering.{nat_cmp, eq_by_cmp}
 use Rattle.std.specs.Cmp.Lexicographic.{slice_cmp, nat_list_cmp_total}
@@ -11,6 +11,7 @@ use Rattle.kv_model.specs.declared.call.Reply.TheVariants.{Done}
 use Rattle.std.specs.FinMap.{get-insert, get-remove, get-empty, len-insert, len-remove, len-empty}
 use Rattle.kv_model.specs.declared.error.KvError.{KvError}
 use Rattle.kv_model.specs.declared.error.KvError.TheVariants as error
+use Rattle.kv_model.specs.declared.limits.TheConstants.{MAX_ITERATORS, MAX_VALUE}
 use Rattle.kv_model.specs.Checks.{first_refusal}
 use Rattle.kv_model.specs.Flags.{is_mirrored, is_plain_flags}
 use Rattle.kv_model.specs.Keys.{is_key}
@@ -18,18 +19,18 @@ use Rattle.kv_model.specs.FlaggedMap.{FlaggedMap, Stored}
 use Rattle.kv_model.specs.StoreState.{Maps, StoreState, OpenSet, Position, Iterators, Doubt, begun_remove, begun_set, fresh_state, iterator_cmp, maps_of, prior_in, tag_in}
 use Rattle.kv_model.specs.Operations.{Operation, Get, Part, Info, Set, Remove, RemoveStart, Start, Add, Finish, Abort, OpenIterator, Next, CloseIterator, Reset, operation_of}
 use Rattle.kv_model.specs.Constants.{Constants}
-use Rattle.kv_model.specs.Rules.{Outcome, Mounts, Steps, after_refusal, before_doubt, cuts, failed_write, mounted, refused_or, step}
+use Rattle.kv_model.specs.Rules.{Outcome, Mounts, Steps, after_refusal, before_doubt, cuts, mounted, refused_or}
 use Rattle.kv_model.specs.Rows.{advanced}
 use Rattle.kv_model.specs.PlainStep.{finished_map, plain_checks, plain_effect, plain_rules, plain_step}
 use Rattle.kv_model.specs.declared.call.Entry.{Entry}
 use Rattle.kv_model.specs.History.{Follows}
 use Rattle.kv_model.specs.Limits.{AreShort, IsActive, IsSet, IsPlain, plain_starts}
-use Rattle.std.proofs.lemmas.Bool.{ltb-false, ltb-true, leb-false, eqb-true}
+use Rattle.std.proofs.lemmas.Bool.{ltb-false, ltb-true, leb-false}
 use mathlib.Core.Bool.{false≢true}
 use Rattle.kv_model.proofs.MapLemmas.{iterator_total}
 
 abbrev IsShort : Stored → Type 0
-IsShort value = length value.bytes ≤ 65592
+IsShort value = length value.bytes ≤ MAX_VALUE
 
 one_of : (same : Bool) (value : Stored) (found : Option Stored) → IsShort value → IfSome found IsShort → IfSome (cond same (Some value) found) IsShort
 one_of true value found new old = new
@@ -103,7 +104,7 @@ module _ (constants : Constants) (state : StoreState) (who : ℕ) (old : IsPlain
     no_rollback = refl;
   }
 
-  with_iterators : (iterators : Iterators) → map.len iterators ≤ 16 → IsPlain (record state { iterators = iterators })
+  with_iterators : (iterators : Iterators) → map.len iterators ≤ MAX_ITERATORS → IsPlain (record state { iterators = iterators })
   with_iterators iterators few = record {
     within = record {
       primary = old.within.primary;
@@ -197,20 +198,20 @@ module _ (constants : Constants) (state : StoreState) (who : ℕ) (old : IsPlain
   abbrev has : ℕ → Bool
   has n = map.contains_key state.iterators (who, n)
 
-  one_more : (there : Bool) (n : ℕ) → nat_le 16 n && not there ≡ false → n ≤ 16 → cond there n (n + 1) ≤ 16
+  one_more : (there : Bool) (n : ℕ) → nat_le MAX_ITERATORS n && not there ≡ false → n ≤ MAX_ITERATORS → cond there n (n + 1) ≤ MAX_ITERATORS
   one_more true n h old_few = old_few
-  one_more false n h old_few = omega (arith, leb-false 16 n (and_true (nat_le 16 n) h))
+  one_more false n h old_few = omega (arith, leb-false MAX_ITERATORS n (and_true (nat_le MAX_ITERATORS n) h))
 
-  no_more : (there : Bool) (n : ℕ) → there ≡ true → n ≤ 16 → cond there n (n + 1) ≤ 16
-  no_more there n is few = subst (λ (b : Bool). cond b n (n + 1) ≤ 16) (sym is) few
+  no_more : (there : Bool) (n : ℕ) → there ≡ true → n ≤ MAX_ITERATORS → cond there n (n + 1) ≤ MAX_ITERATORS
+  no_more there n is few = subst (λ (b : Bool). cond b n (n + 1) ≤ MAX_ITERATORS) (sym is) few
 
-  one_less : (there : Bool) (n : ℕ) → n ≤ 16 → cond there (n - 1) n ≤ 16
+  one_less : (there : Bool) (n : ℕ) → n ≤ MAX_ITERATORS → cond there (n - 1) n ≤ MAX_ITERATORS
   one_less true n few = omega (arith, few)
   one_less false n few = few
 
-  placed : (n : ℕ) (position : Position) → cond (has n) (map.len state.iterators) (map.len state.iterators + 1) ≤ 16
+  placed : (n : ℕ) (position : Position) → cond (has n) (map.len state.iterators) (map.len state.iterators + 1) ≤ MAX_ITERATORS
       → IsPlain (record state { iterators = map.insert state.iterators (who, n) position })
-  placed n position few = with_iterators (map.insert state.iterators (who, n) position) (subst (λ (k : ℕ). k ≤ 16) (sym (len-insert iterator_total state.iterators (who, n) position)) few)
+  placed n position few = with_iterators (map.insert state.iterators (who, n) position) (subst (λ (k : ℕ). k ≤ MAX_ITERATORS) (sym (len-insert iterator_total state.iterators (who, n) position)) few)
 
   moved : (n : ℕ) (found : Option (List ℕ)) → has n ≡ true → IsPlain (advanced state who n found).state
   moved n None is = old
@@ -259,8 +260,8 @@ module _ (constants : Constants) (state : StoreState) (who : ℕ) (old : IsPlain
   may_set : (key : List ℕ) (size flags : ℕ) → first_refusal (plain_checks constants state who (Start key size flags)) ≡ None → may_start flags size
   may_set key size flags none =
       let plain = unrefused (not (is_plain_flags flags)) error.InvalidFlags _ (unrefused (not (is_key key)) error.InvalidKey _ none).1 in
-      let sized = unrefused (nat_lt 65592 size) error.InvalidSize _ plain.1 in
-      (ltb-true flags 2 (is_not (nat_lt flags 2) plain.0), at_most 65592 size sized.0)
+      let sized = unrefused (nat_lt MAX_VALUE size) error.InvalidSize _ plain.1 in
+      (ltb-true flags 2 (is_not (nat_lt flags 2) plain.0), at_most MAX_VALUE size sized.0)
 
   not_refused : (operation : Operation) → first_refusal (plain_checks constants state who operation) ≡ None → IsPlain (plain_effect constants state who operation).state
   not_refused (Get key) none = old
@@ -279,7 +280,7 @@ module _ (constants : Constants) (state : StoreState) (who : ℕ) (old : IsPlain
   not_refused (OpenIterator n prefix) none = placed n _ (one_more (has n) (map.len state.iterators) (unrefused _ _ _ (unrefused _ _ _ none).1).0 old.within.iterators)
   not_refused (Next n) none = moved n _ (is_not (has n) (unrefused _ _ _ none).0)
   not_refused (CloseIterator n) none = with_iterators (map.remove state.iterators (who, n))
-      (subst (λ (k : ℕ). k ≤ 16) (sym (len-remove iterator_total state.iterators (who, n))) (one_less (has n) (map.len state.iterators) old.within.iterators))
+      (subst (λ (k : ℕ). k ≤ MAX_ITERATORS) (sym (len-remove iterator_total state.iterators (who, n))) (one_less (has n) (map.len state.iterators) old.within.iterators))
 
   answered : (operation : Operation) (found : Option KvError) → first_refusal (plain_checks constants state who operation) ≡ found → IsPlain (refused_or (plain_rules constants) state who operation found).state
   answered operation None none = not_refused operation none
@@ -298,7 +299,7 @@ fresh_keeps_limits next_vector fits = record {
     primary = short_empty;
     rollback = short_empty;
     open_set = tt;
-    iterators = subst (λ (n : ℕ). n ≤ 16) (sym (len-empty iterator_cmp Position)) (omega arith);
+    iterators = subst (λ (n : ℕ). n ≤ MAX_ITERATORS) (sym (len-empty iterator_cmp Position)) (omega arith);
     next_vector = fits;
   };
   no_rollback = refl;
@@ -319,7 +320,7 @@ mount_keeps_limits old maps plain there = record {
     primary = there.primary;
     rollback = subst AreShort (sym there.no_rollback) short_empty;
     open_set = tt;
-    iterators = subst (λ (n : ℕ). n ≤ 16) (sym (len-empty iterator_cmp Position)) (omega arith);
+    iterators = subst (λ (n : ℕ). n ≤ MAX_ITERATORS) (sym (len-empty iterator_cmp Position)) (omega arith);
     next_vector = plain.within.next_vector;
   };
   no_rollback = there.no_rollback;

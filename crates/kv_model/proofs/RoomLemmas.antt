@@ -1,5 +1,5 @@
 -- Every step of a plain store keeps its map, and the set that is active, within the room.
-use Rattle.std.proofs.Common.{◌≡◌, ℕ, ◌+◌, ◌≤◌, ◌<◌, Bool, true, false, cond, nat_lt, List, [], ◌∷◌, ◌++◌, length, Option, Some, None, IfSome, MatchBool, MatchOption, refl, sym, ◌∙◌, subst, inl, inr, arith}
+use Rattle.std.proofs.Common.{◌≡◌, ℕ, ◌+◌, ◌≤◌, Bool, true, false, nat_lt, List, ◌++◌, length, Option, Some, None, IfSome, MatchBool, MatchOption, refl, sym, subst, inl, inr, arith}
 use Rattle.std.specs.Prelude.{not, is_some, if◌then◌else◌}
 use Rattle.std.specs.Option.{option_map_or}
 use Rattle.std.specs.List.{Contains}
@@ -13,9 +13,9 @@ use Rattle.kv_model.specs.Checks.{first_refusal}
 use Rattle.kv_model.specs.FlaggedMap.{FlaggedMap, Stored}
 use Rattle.kv_model.specs.Sizes.{record_size, used}
 use Rattle.kv_model.specs.Constants.{Constants}
-use Rattle.kv_model.specs.StoreState.{Maps, StoreState, OpenSet, Doubt, begun_set, fresh_state, maps_of}
+use Rattle.kv_model.specs.StoreState.{Maps, StoreState, OpenSet, Doubt, fresh_state, maps_of}
 use Rattle.kv_model.specs.Operations.{Operation, Get, Part, Info, Set, Remove, RemoveStart, Start, Add, Finish, Abort, OpenIterator, Next, CloseIterator, Reset, operation_of}
-use Rattle.kv_model.specs.Rules.{Outcome, Mounts, Steps, after_refusal, before_doubt, cuts, mounted, refused_or, step}
+use Rattle.kv_model.specs.Rules.{Outcome, Mounts, Steps, after_refusal, before_doubt, cuts, mounted, refused_or}
 use Rattle.kv_model.specs.declared.limits.TheConstants.{MAX_VALUE}
 use Rattle.kv_model.specs.Flags.{is_plain_flags, is_write_once}
 use Rattle.kv_model.specs.Keys.{is_key}
@@ -24,7 +24,7 @@ use Rattle.kv_model.specs.PlainStep.{finished_map, flags_in, needed, plain_check
 use Rattle.kv_model.specs.History.{Follows}
 use Rattle.kv_model.specs.Limits.{HasRoom, IsActive, IsPlain, IsSet, plain_starts}
 use mathlib.Core.Bool.{true≢false}
-use Rattle.kv_model.proofs.LimitLemmas.{at_most, before_keeps_limits, is_not, one_of_three, same_number, unrefused}
+use Rattle.kv_model.proofs.LimitLemmas.{at_most, before_keeps_limits, one_of_three, unrefused}
 use Rattle.kv_model.proofs.UsedLemmas.{used-empty, used-insert_at_most, used-remove_at_most}
 
 module _ (constants : Constants) where

@@ -1,5 +1,5 @@
 -- The records that a history of a plain store writes stand for the map that it leaves.
-use Rattle.std.proofs.Common.{◌≡◌, ℕ, ◌<◌, ◌≤◌, Bool, true, false, nat_lt, List, [], ◌∷◌, ◌++◌, length, Option, Some, None, IfSome, MatchBool, MatchOption, All, refl, sym, ◌∙◌, ap, subst, inl, inr, arith}
+use Rattle.std.proofs.Common.{◌≡◌, ℕ, ◌<◌, Bool, true, false, nat_lt, List, [], ◌∷◌, ◌++◌, length, Option, Some, None, IfSome, MatchBool, MatchOption, All, refl, sym, ◌∙◌, ap, subst, inl, inr, arith}
 use Rattle.std.specs.Prelude.{not, is_some, ◌==◌, if◌then◌else◌}
 use Rattle.std.specs.Option.{option_map_or}
 use Rattle.std.specs.FinMap as map
@@ -26,7 +26,7 @@ use Rattle.kv_model.specs.Operations.{Operation, Get, Part, Info, Set, Remove, R
 use Rattle.kv_model.specs.Rules.{Outcome, Mounts, Steps, after_refusal, refused_or, refuses}
 use Rattle.kv_model.specs.Rows.{advanced}
 use Rattle.kv_model.specs.PlainStep.{finished_map, plain_checks, plain_effect, plain_rules, plain_step}
-use Rattle.kv_model.specs.History.{Follows, PassesThrough, Runs, last_state}
+use Rattle.kv_model.specs.History.{PassesThrough, Runs, last_state}
 use Rattle.kv_model.specs.Limits.{IsActive, IsPlain, IsSet, plain_starts}
 use Rattle.kv_model.proofs.LimitLemmas.{follows_keeps_limits, is_not, unrefused}
 
@@ -269,7 +269,6 @@ module _ (old : StoreState) (who : ℕ) where
     steps_agree asked operation outcome asks other written (inr (inl (runs, may, is))) =
         subst (Agrees old who asked) (sym is) (stays_by asked operation error.ReadFault asks (read_stays operation))
     steps_agree asked operation outcome asks other written (inr (inr (runs, may, is))) = absurd (written (ap (λ (o : Outcome). o.reply) is))
-
 
 -- ---- no call of a history begins a remove
 

@@ -1,6 +1,6 @@
 -- What contracts know of a store at one moment: plain data, with a code, so that it can stand in the view of a seat.
 -- What a store was when it was handed in is its opening.
-use Rattle.std.specs.Prelude.{ℕ, Bool, List, [], Option, Some, None, refl}
+use Rattle.std.specs.Prelude.{ℕ, Bool, List, Option, refl}
 use Rattle.std.specs.Coded.{Coded, coded_ℕ, coded_bool, coded_list, coded_option, coded×, coded⊎, code_by}
 use Rattle.std.proofs.Common.{◌≡◌, ◌⊎◌, inl, inr}
 use base.Stored.{coded_unit}

@@ -1,6 +1,6 @@
 -- The records that a history of a plain store appends to the log. A history begins no remove that it finishes later,
 -- so this is said of states without one.
-use Rattle.std.specs.Prelude.{◌≢◌, ℕ, List, [], ◌∷◌, ◌++◌, false, ◌≡◌, All, Option, Some, None, IfSome}
+use Rattle.std.specs.Prelude.{◌≢◌, ℕ, List, [], ◌∷◌, ◌++◌, false, ◌≡◌, Option, Some, None, IfSome}
 use Rattle.kv_model.specs.declared.error.KvError.TheVariants.{InvalidSize, WriteFault}
 use Rattle.kv_model.specs.declared.call.Call.{Call}
 use Rattle.kv_model.specs.declared.call.Call.TheVariants as call

@@ -1,15 +1,16 @@
 // Laws of the definitions, and facts that tie them to values worked out by hand. Each is a function with nothing to do:
 // its contract is the law.
-ghost use Rattle.std.specs.Prelude.{◌≡◌, ◌+◌, ◌*◌, ◌%◌, ◌<◌, ◌≤◌, ◌^◌, ◌++◌, [], ◌∷◌, ℕ, List, All, codes};
+ghost use Rattle.std.specs.Prelude.{◌≡◌, ◌+◌, ◌*◌, ◌%◌, ◌<◌, ◌≤◌, ◌^◌, ◌++◌, [], ◌∷◌, ℕ, List, All, Some, codes};
 ghost use Rattle.std.specs.Cmp.{IsTotalOrder};
 ghost use Rattle.std.specs.FinMap.{empty};
 ghost use Rattle.kv_model.specs.declared.call.Entry.{Entry};
 ghost use Rattle.kv_model.specs.Crc.{crc_of, key_hash};
 ghost use Rattle.kv_model.specs.Sizes.{up, record_size, master_size, room_of};
 ghost use Rattle.kv_model.specs.KeyOrder.{key_order};
-ghost use Rattle.kv_model.specs.StoreState.{StoreState, fresh_state};
+ghost use Rattle.kv_model.specs.StoreState.{Doubt, StoreState, fresh_state};
 ghost use Rattle.kv_model.specs.Constants.{Constants};
-ghost use Rattle.kv_model.specs.Rules.{Rules, Outcome};
+ghost use Rattle.kv_model.specs.Rules.{Rules, Outcome, refuses, step};
+ghost use Rattle.kv_model.specs.declared.error.KvError.TheVariants.{Stopped};
 ghost use Rattle.kv_model.specs.History.{AreNumbered, Runs, Follows};
 ghost use Rattle.kv_model.specs.Write.{Write, map_of};
 ghost use Rattle.kv_model.specs.Writes.{IsOrdinary, NoRemoveBegun, writes};
@@ -82,4 +83,10 @@ pub fn writes_stand_for_the_map()
         → IsPlain old → NoRemoveBegun old → All IsOrdinary entries
         → Runs (plain_rules constants) old entries new → old.primary ≡ map_of records
         → new.primary ≡ map_of (records ++ writes old.open_set entries) }
+{}
+
+/// A store that a failed write stopped answers each call so, and stands, until it is mounted.
+pub fn a_stopped_store_refuses()
+    ensures { (rules : Rules) (state : StoreState) (doubt : Doubt) (who : ℕ) (operation : Operation)
+        → state.doubt ≡ Some doubt → step rules state who operation ≡ refuses state Stopped }
 {}
