@@ -1,5 +1,5 @@
 -- Each key that is present throughout is given exactly once, and no key twice.
-use Rattle.std.proofs.Common.{◌≡◌, ◌⊎◌, ℕ, suc, ◌≤◌, Bool, true, false, cond, List, [], ◌∷◌, ◌++◌, length, Option, Some, None, IfSome, filter, All, bytes_eq, inl, inr, refl, sym, ◌∙◌, subst, arith, true≢false}
+use Rattle.std.proofs.Common.{◌≡◌, ◌⊎◌, ℕ, suc, ◌≤◌, Bool, true, false, cond, List, [], ◌∷◌, ◌++◌, length, take, Option, Some, None, IfSome, filter, All, bytes_eq, inl, inr, refl, sym, ◌∙◌, subst, arith, true≢false}
 use Rattle.std.specs.List.{AllByRecursion}
 use Rattle.std.specs.FinMap.{contains_key}
 use Rattle.std.proofs.lemmas.List.Sums.{length-filter}
@@ -96,19 +96,19 @@ module _ (hash_bits : ℕ) where
   counted key k ks false is (inr more) = more
 
   given_once : (key : List ℕ) (p : Position) (m : FlaggedMap) (turns : List Turn) (maps : List FlaggedMap)
-      → Iterates hash_bits p m (turns ++ Ends ∷ []) maps → HasPrefix p.prefix key → IsAbove p.last key → IsIn key m → All (IsIn key) maps → 1 ≤ count key (keys_given turns)
+      → Iterates hash_bits p m (turns ++ Ends ∷ []) maps → HasPrefix p.prefix key → IsAbove p.last key → IsIn key m → All (IsIn key) (take (length turns) maps) → 1 ≤ count key (keys_given turns)
   given_once key p m [] (new ∷ []) runs prefixed above now later =
       absurd (next_none m p runs.0 key (record { present = now; prefixed = prefixed; above = above }))
   given_once key p m (Gives k ∷ turns) (new ∷ maps) runs prefixed above now later =
       let found = (next_some m p k runs.0).1 key (record { present = now; prefixed = prefixed; above = above }) in
       counted key k (keys_given turns) (bytes_eq key k) refl (elim found [
         | inl is ↦ inl is
-        | inr beyond ↦ inr (given_once key (record p { last = Some k }) new turns maps runs.1 prefixed beyond (all_first (IsIn key) new maps later) (all_rest (IsIn key) new maps later))
+        | inr beyond ↦ inr (given_once key (record p { last = Some k }) new turns maps runs.1 prefixed beyond (all_first (IsIn key) new (take (length turns) maps) later) (all_rest (IsIn key) new (take (length turns) maps) later))
       ])
   given_once key p m (Ends ∷ turns) (new ∷ maps) runs prefixed above now later =
       absurd (next_none m p runs.0 key (record { present = now; prefixed = prefixed; above = above }))
   given_once key p m (Passes ∷ turns) (new ∷ maps) runs prefixed above now later =
-      given_once key p new turns maps runs prefixed above (all_first (IsIn key) new maps later) (all_rest (IsIn key) new maps later)
+      given_once key p new turns maps runs prefixed above (all_first (IsIn key) new (take (length turns) maps) later) (all_rest (IsIn key) new (take (length turns) maps) later)
   given_once key p m (Opens prefix ∷ turns) maps runs prefixed above now later = absurd runs
   given_once key p m (Closes ∷ turns) maps runs prefixed above now later = absurd runs
   given_once key p m [] [] runs prefixed above now later = absurd runs
@@ -139,9 +139,9 @@ module _ (hash_bits : ℕ) where
 
   pub each_key_once : (prefix : List ℕ) (m : FlaggedMap) (turns : List Turn) (maps : List FlaggedMap) (key : List ℕ)
       → Iterates hash_bits (record { prefix = prefix; last = None }) m (turns ++ Ends ∷ []) maps
-      → HasPrefix prefix key → All (λ (now : FlaggedMap). contains_key now key ≡ true) (m ∷ maps) → times_given key turns ≡ 1
+      → HasPrefix prefix key → All (λ (now : FlaggedMap). contains_key now key ≡ true) (m ∷ take (length turns) maps) → times_given key turns ≡ 1
   each_key_once prefix m turns maps key runs prefixed throughout =
       let start : Position = record { prefix = prefix; last = None } in
-      let least = given_once key start m turns maps runs prefixed tt (all_first (IsIn key) m maps throughout) (all_rest (IsIn key) m maps throughout) in
+      let least = given_once key start m turns maps runs prefixed tt (all_first (IsIn key) m (take (length turns) maps) throughout) (all_rest (IsIn key) m (take (length turns) maps) throughout) in
       let most = once_at_most key start m turns (before_end start m turns maps runs).0 (before_end start m turns maps runs).1 in
       sym (length-filter (bytes_eq key) (keys_given turns)) ∙ omega arith

@@ -1,6 +1,7 @@
 pub mod CrcLemmas
 pub mod HistoryLemmas
 pub mod IterationLemmas
+pub mod IteratorLemmas
 pub mod LimitLemmas
 pub mod MapLemmas
 pub mod NextKeyLemmas

@@ -3,7 +3,7 @@ use Rattle.std.specs.Prelude.{◌≡◌, ℕ, ◌+◌, ◌==◌, List, [], ◌�
 use Rattle.kv_model.specs.declared.call.Reply.TheVariants.{Done}
 use Rattle.kv_model.specs.declared.call.Entry.{Entry}
 use Rattle.kv_model.specs.StoreState.{StoreState}
-use Rattle.kv_model.specs.Operations.{Operation, operation_of}
+use Rattle.kv_model.specs.Operations.{operation_of}
 use Rattle.kv_model.specs.Rules.{Rules, Steps, Mounts}
 
 -- an entry follows from a state: a mount, or a call and its reply

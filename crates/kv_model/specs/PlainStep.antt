@@ -1,5 +1,5 @@
 -- The plain store: one call of it, as a step on its map.
-use Rattle.std.specs.Prelude.{◌≡◌, ℕ, Bool, true, false, not, ◌+◌, nat_lt, List, [], ◌∷◌, length, take, drop, Option, Some, None, is_none, if◌then◌else◌, refl}
+use Rattle.std.specs.Prelude.{◌≡◌, ℕ, false, not, ◌+◌, nat_lt, List, [], ◌∷◌, length, take, drop, Option, Some, None, is_none, if◌then◌else◌, refl}
 use Rattle.std.specs.Option.{option_map_or}
 use Rattle.std.specs.FinMap as map
 use Rattle.kv_model.specs.declared.limits.TheConstants.{MAX_VALUE}
@@ -13,7 +13,7 @@ use Rattle.kv_model.specs.StoreState.{Maps, StoreState, OpenSet, begun_set}
 use Rattle.kv_model.specs.Operations.{Operation, Get, Part, Info, Set, Remove, RemoveStart, Start, Add, Finish, Abort, OpenIterator, Next, CloseIterator, Reset}
 use Rattle.kv_model.specs.Checks.{Check, Refuses, Reads, Writes}
 use Rattle.kv_model.specs.Rules.{Outcome, Rules, is_refusal, step}
-use Rattle.kv_model.specs.Rows.{shared_checks, shared_effect, bad_key, own_set, other_set, answers, becomes, with_maps, opened, advanced, position_of}
+use Rattle.kv_model.specs.Rows.{shared_checks, shared_effect, bad_key, own_set, other_set, answers, becomes, opened, advanced, position_of}
 use Rattle.kv_model.specs.NextKey.{next_key}
 
 -- the value and the flags of a key that a map has, and of one that it lacks none

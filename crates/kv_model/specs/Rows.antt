@@ -1,6 +1,6 @@
 -- The calls that every store answers alike: those of incremental sets but for their starts, those of iterators, and
 -- reset. A store states its own rows and takes these.
-use Rattle.std.specs.Prelude.{◌≡◌, ℕ, Bool, true, false, not, ◌+◌, ◌&&◌, ◌==◌, nat_lt, nat_le, List, [], ◌∷◌, ◌++◌, length, Option, Some, None, is_some, unwrap_or}
+use Rattle.std.specs.Prelude.{ℕ, Bool, false, not, ◌+◌, ◌&&◌, ◌==◌, nat_lt, nat_le, List, [], ◌∷◌, ◌++◌, length, Option, Some, None, is_some, unwrap_or}
 use Rattle.std.specs.Option.{option_map_or}
 use Rattle.std.specs.FinMap as map
 use Rattle.kv_model.specs.declared.limits.TheConstants.{MAX_ITERATORS}
@@ -8,7 +8,6 @@ use Rattle.kv_model.specs.declared.error.KvError.TheVariants as error
 use Rattle.kv_model.specs.declared.call.Reply.{Reply}
 use Rattle.kv_model.specs.declared.call.Reply.TheVariants as reply
 use Rattle.kv_model.specs.Keys.{is_key, is_prefix}
-use Rattle.kv_model.specs.FlaggedMap.{FlaggedMap}
 use Rattle.kv_model.specs.StoreState.{Maps, StoreState, OpenSet, Position, begun_remove}
 use Rattle.kv_model.specs.Operations.{Operation, RemoveStart, Add, Finish, Abort, OpenIterator, Next, CloseIterator, Reset}
 use Rattle.kv_model.specs.Checks.{Check, Refuses, Reads, Writes}
