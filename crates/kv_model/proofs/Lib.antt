@@ -6,5 +6,6 @@ pub mod LimitLemmas
 pub mod MapLemmas
 pub mod NextKeyLemmas
 pub mod OrderLemmas
+pub mod ReplyLemmas
 pub mod SizesLemmas
 pub mod UsedLemmas

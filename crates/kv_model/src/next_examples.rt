@@ -1,6 +1,10 @@
 // Worked examples of iterators, each computed from the definitions.
 ghost use Rattle.std.specs.Prelude.{◌≡◌, ◌∷◌, [], Some, None, codes};
-ghost use Rattle.kv_model.specs.Examples.{map_of_keys};
+ghost use Rattle.kv_model.specs.declared.call.Reply.TheVariants.{Done, Found, End, Refused};
+ghost use Rattle.kv_model.specs.declared.error.KvError.TheVariants.{NoIterator};
+ghost use Rattle.kv_model.specs.Operations.{Set, Remove, OpenIterator, Next, CloseIterator};
+ghost use Rattle.kv_model.specs.Replies.{plain_replies};
+ghost use Rattle.kv_model.specs.Examples.{example_store, empty_store, map_of_keys};
 ghost use Rattle.kv_model.specs.IteratorExamples.{map_of_names, begins_with, given};
 
 /// The keys a, b and c come in the order of the low bits of their CRCs, 174841BC, 8E411006 and
@@ -23,4 +27,27 @@ pub fn prefix_limits_keys()
         (map_of_names (codes "kb" ∷ codes "j" ∷ codes "k" ∷ codes "l" ∷ []))
         (begins_with (codes "k")) 3 ≡ Some (codes "k") ∷ Some (codes "kb") ∷ None ∷ [] }
     ensures none { given 0 (map_of_keys (codes "jl")) (begins_with (codes "k")) 1 ≡ None ∷ [] }
+{}
+
+/// With all hashes equal, while d is removed and a and e are set: b, then e and f, and then the
+/// end, as often as it is asked for.
+pub fn iterator_with_equal_hashes()
+    ensures { plain_replies (record example_store { hash_bits = 0 }) empty_store (
+        (1, Set (codes "b") (0x00 ∷ []) 0)
+        ∷ (1, Set (codes "d") (0x00 ∷ []) 0)
+        ∷ (1, Set (codes "f") (0x00 ∷ []) 0)
+        ∷ (1, OpenIterator 0 [])
+        ∷ (1, Next 0)
+        ∷ (1, Remove (codes "d"))
+        ∷ (1, Set (codes "a") (0x00 ∷ []) 0)
+        ∷ (1, Set (codes "e") (0x00 ∷ []) 0)
+        ∷ (1, Next 0)
+        ∷ (1, Next 0)
+        ∷ (1, Next 0)
+        ∷ (1, Next 0)
+        ∷ (1, CloseIterator 0)
+        ∷ (1, Next 0)
+        ∷ []
+        ) ≡ Done ∷ Done ∷ Done ∷ Done ∷ Found (codes "b") ∷ Done ∷ Done ∷ Done
+        ∷ Found (codes "e") ∷ Found (codes "f") ∷ End ∷ End ∷ Done ∷ Refused NoIterator ∷ [] }
 {}
