@@ -8,8 +8,18 @@ use Rattle.kv_model.specs.FlaggedMap.{FlaggedMap}
 use Rattle.kv_model.specs.KeyOrder.{is_below}
 use Rattle.kv_model.specs.StoreState.{Position}
 use Rattle.kv_model.specs.NextKey.{next_key, HasPrefix, IsNext}
-use Rattle.kv_model.specs.Iterations.{Turn, Opens, Gives, Ends, Closes, Passes, keys_given, times_given, Iterates}
+use Rattle.kv_model.specs.Iterations.{Turn, Opens, Gives, Ends, Closes, Passes, keys_given, times_given}
 use Rattle.kv_model.proofs.NextKeyLemmas.{below_trans, not_below_itself, next_key_is_next}
+
+-- From this position and this map on, each key given is the next one of the moment, and the end comes where there is no
+-- next one. The second list has the maps behind the calls, which may change at will.
+abbrev pub Iterates : ℕ → Position → FlaggedMap → List Turn → List FlaggedMap → Type 0
+Iterates hash_bits position map [] [] = Unit {0}
+Iterates hash_bits position map (Gives key ∷ turns) (new ∷ maps) =
+    (next_key hash_bits map position ≡ Some key) × Iterates hash_bits (record position { last = Some key }) new turns maps
+Iterates hash_bits position map (Ends ∷ turns) (new ∷ maps) = (next_key hash_bits map position ≡ None) × Iterates hash_bits position new turns maps
+Iterates hash_bits position map (Passes ∷ turns) (new ∷ maps) = Iterates hash_bits position new turns maps
+Iterates hash_bits position map turns maps = ⊥
 
 module _ (hash_bits : ℕ) where
   abbrev IsAbove : Option (List ℕ) → List ℕ → Type 0

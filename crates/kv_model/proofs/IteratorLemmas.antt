@@ -24,10 +24,9 @@ use Rattle.kv_model.specs.Rows.{shared_effect, advanced, position_of}
 use Rattle.kv_model.specs.Constants.{Constants}
 use Rattle.kv_model.specs.PlainStep.{plain_rules, plain_effect, finished}
 use Rattle.kv_model.specs.History.{Follows, PassesThrough}
-use Rattle.kv_model.specs.Iterations.{Turn, Opens, Gives, Ends, Closes, Passes, stays_open, Iterates, times_given}
-use Rattle.kv_model.specs.IteratorHistory.{SharesIterators, is_of_iterators, turn_by, turn_of, turns_of, IsIteration, GivesNoKeyTwice, GivesEachKeyOnce}
+use Rattle.kv_model.specs.Iterations.{Turn, Opens, Gives, Ends, Closes, Passes, stays_open, times_given, SharesIterators, is_of_iterators, turn_by, turn_of, turns_of, IsIteration, GivesNoKeyTwice, GivesEachKeyOnce}
 use Rattle.kv_model.proofs.MapLemmas.{iterator_total}
-use Rattle.kv_model.proofs.IterationLemmas.{no_key_twice, each_key_once}
+use Rattle.kv_model.proofs.IterationLemmas.{Iterates, no_key_twice, each_key_once}
 
 module _ (who n : ℕ) where
   abbrev its : ℕ → ℕ → Bool

@@ -8,7 +8,6 @@ pub mod Flags
 pub mod History
 pub mod Iterations
 pub mod IteratorExamples
-pub mod IteratorHistory
 pub mod KeyOrder
 pub mod KeySizes
 pub mod Keys

@@ -29,10 +29,10 @@ pub use laws::{
     record_sizes,
 };
 pub use limits::{MAX_ITERATORS, MAX_KEY, MAX_VALUE};
-pub use next_examples::{hash_bits_order_keys, iterator_with_equal_hashes, prefix_limits_keys};
-pub use next_laws::{
-    iterations_give_each_key_once, iterators_give_each_key_once, next_key_is_least,
+pub use next_examples::{
+    hash_bits_order_keys, iteration_in_a_history, iterator_with_equal_hashes, prefix_limits_keys,
 };
+pub use next_laws::{iterators_give_each_key_once, next_key_is_least};
 pub use pattern::Pattern;
 pub use size_laws::{used_counts_each_key, used_of_two_keys};
 

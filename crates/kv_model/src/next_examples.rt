@@ -1,11 +1,14 @@
 // Worked examples of iterators, each computed from the definitions.
-ghost use Rattle.std.specs.Prelude.{◌≡◌, ◌∷◌, [], Some, None, codes};
+ghost use Rattle.std.specs.Prelude.{◌≡◌, ◌∷◌, ◌++◌, [], Some, None, codes};
 ghost use Rattle.kv_model.specs.declared.call.Reply.TheVariants.{Done, Found, End, Refused};
 ghost use Rattle.kv_model.specs.declared.error.KvError.TheVariants.{NoIterator};
 ghost use Rattle.kv_model.specs.Operations.{Set, Remove, OpenIterator, Next, CloseIterator};
 ghost use Rattle.kv_model.specs.Replies.{plain_replies};
 ghost use Rattle.kv_model.specs.Examples.{example_store, empty_store, map_of_keys};
-ghost use Rattle.kv_model.specs.IteratorExamples.{map_of_names, begins_with, given};
+ghost use Rattle.kv_model.specs.IteratorExamples.{map_of_names, begins_with, given, one_hash_store, with_two_keys, opening, during, ending, opened, gave_a, without_c};
+ghost use Rattle.kv_model.specs.PlainStep.{plain_rules};
+ghost use Rattle.kv_model.specs.History.{PassesThrough};
+ghost use Rattle.kv_model.specs.Iterations.{Ends, Passes, IsIteration, turn_of, turns_of, keys_given, times_given};
 
 /// The keys a, b and c come in the order of the low bits of their CRCs, 174841BC, 8E411006 and
 /// F9462090: by 4 bits c, b and a, by 8 bits b, c and a, and by all bits or none a, b and c.
@@ -50,4 +53,15 @@ pub fn iterator_with_equal_hashes()
         ∷ []
         ) ≡ Done ∷ Done ∷ Done ∷ Done ∷ Found (codes "b") ∷ Done ∷ Done ∷ Done
         ∷ Found (codes "e") ∷ Found (codes "f") ∷ End ∷ End ∷ Done ∷ Refused NoIterator ∷ [] }
+{}
+
+/// A history with an iteration to its end, in which one key is given and one is taken away.
+pub fn iteration_in_a_history()
+    ensures passes { PassesThrough (plain_rules one_hash_store) with_two_keys
+        (opening ∷ during ++ ending ∷ []) (opened ∷ gave_a ∷ without_c ∷ without_c ∷ []) }
+    ensures iteration { IsIteration 1 0 [] opening during }
+    ensures ends { turn_of 1 0 ending ≡ Ends }
+    ensures given { keys_given (turns_of 1 0 during) ≡ codes "a" ∷ [] }
+    ensures once { times_given (codes "a") (turns_of 1 0 during) ≡ 1 }
+    ensures other { turns_of 2 0 during ≡ Passes ∷ Passes ∷ [] }
 {}
