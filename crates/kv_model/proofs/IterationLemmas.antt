@@ -1,5 +1,5 @@
 -- Each key that is present throughout is given exactly once, and no key twice.
-use Rattle.std.proofs.Common.{◌≡◌, ◌⊎◌, ℕ, suc, ◌≤◌, Bool, true, false, cond, List, [], ◌∷◌, ◌++◌, length, Option, Some, None, IfSome, filter, All, bytes_eq, inl, inr, refl, sym, ◌∙◌, subst, arith, true≢false}
+use Rattle.std.proofs.Common.{◌≡◌, ◌⊎◌, ℕ, suc, ◌≤◌, Bool, true, false, cond, List, [], ◌∷◌, ◌++◌, length, take, Option, Some, None, IfSome, filter, All, bytes_eq, inl, inr, refl, sym, ◌∙◌, subst, arith, true≢false}
 use Rattle.std.specs.List.{AllByRecursion}
 use Rattle.std.specs.FinMap.{contains_key}
 use Rattle.std.proofs.lemmas.List.Sums.{length-filter}
@@ -8,8 +8,18 @@ use Rattle.kv_model.specs.FlaggedMap.{FlaggedMap}
 use Rattle.kv_model.specs.KeyOrder.{is_below}
 use Rattle.kv_model.specs.StoreState.{Position}
 use Rattle.kv_model.specs.NextKey.{next_key, HasPrefix, IsNext}
-use Rattle.kv_model.specs.Iterations.{Turn, Opens, Gives, Ends, Closes, Passes, keys_given, times_given, Iterates}
+use Rattle.kv_model.specs.Iterations.{Turn, Opens, Gives, Ends, Closes, Passes, keys_given, times_given}
 use Rattle.kv_model.proofs.NextKeyLemmas.{below_trans, not_below_itself, next_key_is_next}
+
+-- From this position and this map on, each key given is the next one of the moment, and the end comes where there is no
+-- next one. The second list has the maps behind the calls, which may change at will.
+abbrev pub Iterates : ℕ → Position → FlaggedMap → List Turn → List FlaggedMap → Type 0
+Iterates hash_bits position map [] [] = Unit {0}
+Iterates hash_bits position map (Gives key ∷ turns) (new ∷ maps) =
+    (next_key hash_bits map position ≡ Some key) × Iterates hash_bits (record position { last = Some key }) new turns maps
+Iterates hash_bits position map (Ends ∷ turns) (new ∷ maps) = (next_key hash_bits map position ≡ None) × Iterates hash_bits position new turns maps
+Iterates hash_bits position map (Passes ∷ turns) (new ∷ maps) = Iterates hash_bits position new turns maps
+Iterates hash_bits position map turns maps = ⊥
 
 module _ (hash_bits : ℕ) where
   abbrev IsAbove : Option (List ℕ) → List ℕ → Type 0
@@ -96,19 +106,19 @@ module _ (hash_bits : ℕ) where
   counted key k ks false is (inr more) = more
 
   given_once : (key : List ℕ) (p : Position) (m : FlaggedMap) (turns : List Turn) (maps : List FlaggedMap)
-      → Iterates hash_bits p m (turns ++ Ends ∷ []) maps → HasPrefix p.prefix key → IsAbove p.last key → IsIn key m → All (IsIn key) maps → 1 ≤ count key (keys_given turns)
+      → Iterates hash_bits p m (turns ++ Ends ∷ []) maps → HasPrefix p.prefix key → IsAbove p.last key → IsIn key m → All (IsIn key) (take (length turns) maps) → 1 ≤ count key (keys_given turns)
   given_once key p m [] (new ∷ []) runs prefixed above now later =
       absurd (next_none m p runs.0 key (record { present = now; prefixed = prefixed; above = above }))
   given_once key p m (Gives k ∷ turns) (new ∷ maps) runs prefixed above now later =
       let found = (next_some m p k runs.0).1 key (record { present = now; prefixed = prefixed; above = above }) in
       counted key k (keys_given turns) (bytes_eq key k) refl (elim found [
         | inl is ↦ inl is
-        | inr beyond ↦ inr (given_once key (record p { last = Some k }) new turns maps runs.1 prefixed beyond (all_first (IsIn key) new maps later) (all_rest (IsIn key) new maps later))
+        | inr beyond ↦ inr (given_once key (record p { last = Some k }) new turns maps runs.1 prefixed beyond (all_first (IsIn key) new (take (length turns) maps) later) (all_rest (IsIn key) new (take (length turns) maps) later))
       ])
   given_once key p m (Ends ∷ turns) (new ∷ maps) runs prefixed above now later =
       absurd (next_none m p runs.0 key (record { present = now; prefixed = prefixed; above = above }))
   given_once key p m (Passes ∷ turns) (new ∷ maps) runs prefixed above now later =
-      given_once key p new turns maps runs prefixed above (all_first (IsIn key) new maps later) (all_rest (IsIn key) new maps later)
+      given_once key p new turns maps runs prefixed above (all_first (IsIn key) new (take (length turns) maps) later) (all_rest (IsIn key) new (take (length turns) maps) later)
   given_once key p m (Opens prefix ∷ turns) maps runs prefixed above now later = absurd runs
   given_once key p m (Closes ∷ turns) maps runs prefixed above now later = absurd runs
   given_once key p m [] [] runs prefixed above now later = absurd runs
@@ -139,9 +149,9 @@ module _ (hash_bits : ℕ) where
 
   pub each_key_once : (prefix : List ℕ) (m : FlaggedMap) (turns : List Turn) (maps : List FlaggedMap) (key : List ℕ)
       → Iterates hash_bits (record { prefix = prefix; last = None }) m (turns ++ Ends ∷ []) maps
-      → HasPrefix prefix key → All (λ (now : FlaggedMap). contains_key now key ≡ true) (m ∷ maps) → times_given key turns ≡ 1
+      → HasPrefix prefix key → All (λ (now : FlaggedMap). contains_key now key ≡ true) (m ∷ take (length turns) maps) → times_given key turns ≡ 1
   each_key_once prefix m turns maps key runs prefixed throughout =
       let start : Position = record { prefix = prefix; last = None } in
-      let least = given_once key start m turns maps runs prefixed tt (all_first (IsIn key) m maps throughout) (all_rest (IsIn key) m maps throughout) in
+      let least = given_once key start m turns maps runs prefixed tt (all_first (IsIn key) m (take (length turns) maps) throughout) (all_rest (IsIn key) m (take (length turns) maps) throughout) in
       let most = once_at_most key start m turns (before_end start m turns maps runs).0 (before_end start m turns maps runs).1 in
       sym (length-filter (bytes_eq key) (keys_given turns)) ∙ omega arith

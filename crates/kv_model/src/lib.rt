@@ -15,7 +15,8 @@ mod next_laws;
 mod pattern;
 mod size_laws;
 
-pub use bytes::{Bytes, NoMemory};
+pub use base_core::NoMemory;
+pub use bytes::Bytes;
 pub use call::{Call, Entry, Got, Info, Reply};
 pub use error::KvError;
 pub use examples::{
@@ -29,8 +30,10 @@ pub use laws::{
     record_sizes, room_is_kept, writes_stand_for_the_map,
 };
 pub use limits::{MAX_ITERATORS, MAX_KEY, MAX_VALUE};
-pub use next_examples::{hash_bits_order_keys, prefix_limits_keys};
-pub use next_laws::{iterations_give_each_key_once, next_key_is_least};
+pub use next_examples::{
+    hash_bits_order_keys, iteration_in_a_history, iterator_with_equal_hashes, prefix_limits_keys,
+};
+pub use next_laws::{iterators_give_each_key_once, next_key_is_least};
 pub use pattern::Pattern;
 pub use size_laws::{used_counts_each_key, used_of_two_keys};
 
