@@ -86,11 +86,11 @@ Stand-append image [] b stand more = more
 Stand-append image (read ∷ a) b stand more = (stand.0, Stand-append image a b stand.1 more)
 
 module _ (prog : ℕ) (positive : 1 ≤ prog) (image : List ℕ) where
-  masters_stand : (area : ℕ) (version : Option ℕ) → MasterAt prog image area version → Stand image (master_reads prog area version)
+  pub masters_stand : (area : ℕ) (version : Option ℕ) → MasterAt prog image area version → Stand image (master_reads prog area version)
   masters_stand area None none = tt
   masters_stand area (Some version) is = (ap (part image area) (length-master_bytes prog positive version) ∙ is.spelling, tt)
 
-  records_stand : (place end : ℕ) (rs : List Write) → AreRecords prog image place end rs → Stand image (record_reads prog place rs)
+  pub records_stand : (place end : ℕ) (rs : List Write) → AreRecords prog image place end rs → Stand image (record_reads prog place rs)
   records_stand place end [] is = tt
   records_stand place end (r ∷ rs) records =
       (ap (part image place) (length-record_bytes prog positive r.flags r.key r.value) ∙ records.0.spelling, records_stand (place + extent prog r) end rs records.1)
