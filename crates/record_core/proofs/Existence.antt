@@ -13,9 +13,10 @@ use Rattle.flash_core.specs.Sizes.{IsValid, area_size}
 use Rattle.flash_core.specs.Up as flash
 use Rattle.flash_core.proofs.GeometryLaws.{prog_positive}
 use Rattle.kv_model.specs.Flags.{remove_flags}
-use Rattle.kv_model.specs.History.{Write}
+use Rattle.kv_model.specs.Write.{Write}
 use Rattle.kv_model.specs.Keys.{is_key, master_key}
-use Rattle.kv_model.specs.Sizes.{up, master_size}
+use Rattle.base_core.specs.Units.{up}
+use Rattle.base_core.specs.Sizes.{master_size}
 use Rattle.record_core.specs.Header.{IsHeader, HasFields}
 use Rattle.record_core.specs.Log.{AreAllRecords, IsRecordAt, extent}
 use Rattle.record_core.specs.Mounts.{MasterAt, ActiveRecords, Contents, Holds, active_area}
