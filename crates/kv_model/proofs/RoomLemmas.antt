@@ -11,7 +11,8 @@ use Rattle.kv_model.specs.declared.error.KvError.TheVariants as error
 use Rattle.kv_model.specs.declared.call.Entry.{Entry}
 use Rattle.kv_model.specs.Checks.{first_refusal}
 use Rattle.kv_model.specs.FlaggedMap.{FlaggedMap, Stored}
-use Rattle.kv_model.specs.Sizes.{record_size, used}
+use Rattle.base_core.specs.Sizes.{record_size}
+use Rattle.kv_model.specs.Sizes.{used}
 use Rattle.kv_model.specs.Constants.{Constants}
 use Rattle.kv_model.specs.StoreState.{Maps, StoreState, OpenSet, Doubt, fresh_state, maps_of}
 use Rattle.kv_model.specs.Operations.{Operation, Get, Part, Info, Set, Remove, RemoveStart, Start, Add, Finish, Abort, OpenIterator, Next, CloseIterator, Reset, operation_of}

@@ -6,7 +6,8 @@ use Rattle.std.specs.Cmp.Lexicographic.{slice_cmp, nat_list_cmp_total}
 use Rattle.std.specs.FinMap.{empty, insert, remove, entries, entries_sorted, entries-insert, get-entries}
 use Rattle.std.specs.FinMap.Entries.{find, put, is_sorted, below_all, by_order}
 use Rattle.kv_model.specs.FlaggedMap.{FlaggedMap, Stored}
-use Rattle.kv_model.specs.Sizes.{record_size, used, used_by}
+use Rattle.base_core.specs.Sizes.{record_size}
+use Rattle.kv_model.specs.Sizes.{used, used_by}
 use Rattle.kv_model.specs.KeySizes.{key_size}
 use Rattle.kv_model.proofs.MapLemmas.{entries-empty, entries-remove, others}
 use Rattle.kv_model.proofs.NextKeyLemmas.{bytes_same}

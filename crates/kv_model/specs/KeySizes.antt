@@ -3,7 +3,7 @@ use Rattle.std.specs.Prelude.{ℕ, List, length}
 use Rattle.std.specs.Option.{option_map_or}
 use Rattle.std.specs.FinMap.{get}
 use Rattle.kv_model.specs.FlaggedMap.{Stored, FlaggedMap}
-use Rattle.kv_model.specs.Sizes.{record_size}
+use Rattle.base_core.specs.Sizes.{record_size}
 
 -- the size of the key's record, and 0 where the map lacks the key
 abbrev pub key_size : ℕ → FlaggedMap → List ℕ → ℕ

@@ -6,7 +6,8 @@ use Rattle.kv_model.specs.Flags.{is_mirrored}
 use Rattle.kv_model.specs.FlaggedMap.{FlaggedMap, Stored}
 use Rattle.kv_model.specs.Constants.{Constants}
 use Rattle.kv_model.specs.Operations.{Operation, Start}
-use Rattle.kv_model.specs.Sizes.{record_size, used}
+use Rattle.base_core.specs.Sizes.{record_size}
+use Rattle.kv_model.specs.Sizes.{used}
 use Rattle.kv_model.specs.StoreState.{StoreState, OpenSet, prior_in}
 
 -- each value has at most so many bytes

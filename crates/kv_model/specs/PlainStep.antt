@@ -7,7 +7,8 @@ use Rattle.kv_model.specs.declared.error.KvError.TheVariants as error
 use Rattle.kv_model.specs.declared.call.Reply.TheVariants as reply
 use Rattle.kv_model.specs.Flags.{is_plain_flags, is_write_once}
 use Rattle.kv_model.specs.FlaggedMap.{Stored, FlaggedMap}
-use Rattle.kv_model.specs.Sizes.{record_size, used}
+use Rattle.base_core.specs.Sizes.{record_size}
+use Rattle.kv_model.specs.Sizes.{used}
 use Rattle.kv_model.specs.Constants.{Constants}
 use Rattle.kv_model.specs.StoreState.{Maps, StoreState, OpenSet, begun_set}
 use Rattle.kv_model.specs.Operations.{Operation, Get, Part, Info, Set, Remove, RemoveStart, Start, Add, Finish, Abort, OpenIterator, Next, CloseIterator, Reset}

@@ -2,7 +2,8 @@
 ghost use Rattle.std.specs.Prelude.{◌≡◌, ◌≤◌, ◌+◌, ◌∷◌, [], ℕ, List, length, codes};
 ghost use Rattle.std.specs.FinMap.{empty, insert, remove};
 ghost use Rattle.kv_model.specs.FlaggedMap.{FlaggedMap, Stored};
-ghost use Rattle.kv_model.specs.Sizes.{record_size, used};
+ghost use Rattle.base_core.specs.Sizes.{record_size};
+ghost use Rattle.kv_model.specs.Sizes.{used};
 ghost use Rattle.kv_model.specs.KeySizes.{key_size};
 
 /// A map uses the size of each key's record once. An insert puts the size of the new record in the

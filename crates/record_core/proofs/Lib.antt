@@ -1,5 +1,7 @@
 pub mod AnswerLemmas
+pub mod ChanceLemmas
 pub mod CrcByTable
+pub mod Existence
 pub mod HeaderLemmas
 pub mod LogLemmas
 pub mod MountLemmas
@@ -7,4 +9,5 @@ pub mod PayloadLemmas
 pub mod ReaderLemmas
 pub mod RecordLemmas
 pub mod SizeLemmas
+pub mod TornLemmas
 pub mod WriterLemmas

@@ -1,3 +1,5 @@
+pub mod Chance
+pub mod Cuts
 pub mod Header
 pub mod Log
 pub mod Mounts

@@ -10,6 +10,7 @@
 #![tactic(auto)]
 
 mod checksum;
+mod cuts;
 mod header;
 mod laws;
 mod payload;
@@ -19,6 +20,10 @@ mod size;
 mod writer;
 
 pub use checksum::crc;
+pub use cuts::{
+    chance_or_first_break, contents_survive_elsewhere, every_image_mounts,
+    torn_header_is_whole_or_unseen, torn_master_is_whole_or_unseen,
+};
 pub use header::{Header, read_header, write_header};
 pub use laws::{
     last_record_decides, mounts_once, readers_have_one_answer, record_example,

@@ -3,7 +3,7 @@ use Rattle.std.specs.Cmp.Lexicographic.{slice_cmp, nat_list_cmp_total}
 use Rattle.std.specs.FinMap.{entries-insert, get-insert, get-empty}
 use Rattle.kv_model.specs.FlaggedMap.{Stored}
 use Rattle.kv_model.specs.Keys.{is_key, is_prefix, is_key_byte}
-use Rattle.kv_model.specs.Sizes.{up}
+use Rattle.base_core.specs.Units.{up}
 use Rattle.kv_model.proofs.MapLemmas.{entries-empty}
 use Rattle.kv_model.proofs.examples.get_beside_an_open_set.Goals as goal
 

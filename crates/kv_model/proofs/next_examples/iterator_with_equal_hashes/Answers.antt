@@ -9,7 +9,7 @@ use Rattle.kv_model.specs.Constants.{Constants}
 use Rattle.kv_model.specs.StoreState.{StoreState, Iterators}
 use Rattle.kv_model.specs.Operations.{Operation, Set, Remove, OpenIterator, Next, CloseIterator}
 use Rattle.kv_model.specs.Keys.{is_key, is_prefix, is_key_byte}
-use Rattle.kv_model.specs.Sizes.{up}
+use Rattle.base_core.specs.Units.{up}
 use Rattle.kv_model.specs.PlainStep.{plain_step}
 use Rattle.kv_model.specs.Examples.{example_store, empty_store, position_behind}
 use Rattle.kv_model.proofs.MapLemmas.{entries-empty, entries-remove, iterator_total}

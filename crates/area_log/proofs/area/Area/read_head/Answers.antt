@@ -1,7 +1,7 @@
 use Rattle.std.proofs.Common.{◌≡◌, ℕ, length, ◌∙◌, ap, arith, inr, rules}
 use Rattle.flash_core.specs.declared.geometry.Geometry.{Geometry}
 use Rattle.flash_core.proofs.GeometryLaws.{prog_positive}
-use Rattle.kv_model.specs.Sizes.{record_size}
+use Rattle.base_core.specs.Sizes.{record_size}
 use Rattle.record_core.specs.declared.header.Header.{Header}
 use Rattle.area_log.specs.Reading.{IsCorrupt}
 use Rattle.area_log.proofs.ReadLemmas.{corrupt_of, head_is, head_of, is_head_of, not_both, same_ok}
