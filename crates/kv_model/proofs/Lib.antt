@@ -6,6 +6,7 @@ pub mod LimitLemmas
 pub mod MapLemmas
 pub mod NextKeyLemmas
 pub mod OrderLemmas
+pub mod OrderOfLinesLemmas
 pub mod ReplyLemmas
 pub mod RoomLemmas
 pub mod UsedLemmas

@@ -15,6 +15,8 @@ pub mod Limits
 pub mod NextKey
 pub mod Opening
 pub mod Operations
+pub mod OrderExamples
+pub mod Orders
 pub mod PlainStep
 pub mod Replies
 pub mod Rows

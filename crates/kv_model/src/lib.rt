@@ -12,6 +12,7 @@ mod laws;
 mod limits;
 mod next_examples;
 mod next_laws;
+mod order_laws;
 mod pattern;
 mod size_laws;
 
@@ -34,6 +35,7 @@ pub use next_examples::{
     hash_bits_order_keys, iteration_in_a_history, iterator_with_equal_hashes, prefix_limits_keys,
 };
 pub use next_laws::{iterators_give_each_key_once, next_key_is_least};
+pub use order_laws::{entries_are_lines, two_clients};
 pub use pattern::Pattern;
 pub use size_laws::{used_counts_each_key, used_of_two_keys};
 
