@@ -9,5 +9,6 @@ pub mod OrderLemmas
 pub mod OrderOfLinesLemmas
 pub mod ReplyLemmas
 pub mod RoomLemmas
+pub mod RulesLemmas
 pub mod UsedLemmas
 pub mod WritesLemmas

@@ -5,13 +5,16 @@ pub mod Errors
 pub mod Examples
 pub mod FlaggedMap
 pub mod Flags
+pub mod Given
 pub mod History
 pub mod Iterations
 pub mod IteratorExamples
 pub mod KeyOrder
 pub mod KeySizes
 pub mod Keys
+pub mod Kv
 pub mod Limits
+pub mod LogStep
 pub mod NextKey
 pub mod Opening
 pub mod Operations

@@ -8,6 +8,7 @@ mod error;
 mod examples;
 mod flags;
 mod key;
+mod kv;
 mod laws;
 mod limits;
 mod next_examples;
@@ -26,6 +27,7 @@ pub use examples::{
 };
 pub use flags::Flags;
 pub use key::{Key, is_key, is_prefix};
+pub use kv::Kv;
 pub use laws::{
     a_stopped_store_refuses, crc_values, history_goes_on, key_order_is_total, limits_are_kept,
     record_sizes, room_is_kept, writes_stand_for_the_map,
