@@ -20,6 +20,7 @@ pub mod Opening
 pub mod Operations
 pub mod OrderExamples
 pub mod Orders
+pub mod Performs
 pub mod PlainStep
 pub mod Replies
 pub mod Rows

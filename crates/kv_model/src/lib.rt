@@ -4,6 +4,7 @@
 
 mod bytes;
 mod call;
+mod calling;
 mod error;
 mod examples;
 mod flags;
@@ -20,6 +21,7 @@ mod size_laws;
 pub use base_core::NoMemory;
 pub use bytes::Bytes;
 pub use call::{Call, Entry, Got, Info, Reply};
+pub use calling::perform;
 pub use error::KvError;
 pub use examples::{
     empty_value, full_store, get_beside_an_open_set, iterator_beside_changes, iterators_by_number,
