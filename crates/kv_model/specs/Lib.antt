@@ -1,3 +1,4 @@
+pub mod Arming
 pub mod Checks
 pub mod Constants
 pub mod Crc
@@ -20,6 +21,7 @@ pub mod Opening
 pub mod Operations
 pub mod OrderExamples
 pub mod Orders
+pub mod Patterns
 pub mod Performs
 pub mod PlainStep
 pub mod Replies

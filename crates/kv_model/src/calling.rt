@@ -110,16 +110,12 @@ fn read_next<K: Kv>(alloc: Global, store: &mut K, who: u8, n: u8) -> Result<Repl
     }
 }
 
-/// Makes the one call that `call` names, which is no mount. Want of memory is answered as such and leaves the state;
-/// every other refusal is a reply. A value is read into memory of its own size.
-pub fn perform<K: Kv>(
-    alloc: Global,
-    store: &mut K,
-    who: u8,
-    call: &Call,
-) -> Result<Reply, NoMemory>
+/// Makes the one call that `call` names, which is no mount. Want of memory is answered as such and
+/// leaves the state; every other refusal is a reply. A value is read into memory of its own size.
+pub fn perform<K: Kv>(alloc: Global, store: &mut K, who: u8, call: &Call) -> Result<Reply, NoMemory>
     requires { call.now ≢ Call.Mount }
-    ensures performs { Performs K.rules_by (K.state store.old) (K.state store.new) who call.now result }
+    ensures performs { Performs K.rules_by (K.state store.old) (K.state store.new)
+        who call.now result }
     ensures memory { IfOk result (λ reply. reply ≢ Reply.Refused Memory) }
 {
     match call {

@@ -1,5 +1,5 @@
-//! The model of a key-value store, and the types that its callers and its layers share: keys, flags, calls, replies,
-//! refusals. The definitions in specs/ say what a store may answer.
+//! The model of a key-value store, and the types that its callers and its layers share: keys,
+//! flags, calls, replies, refusals. The definitions in specs/ say what a store may answer.
 #![tactic(auto)]
 
 mod bytes;
@@ -29,7 +29,7 @@ pub use examples::{
 };
 pub use flags::Flags;
 pub use key::{Key, is_key, is_prefix};
-pub use kv::Kv;
+pub use kv::{Armable, Kv};
 pub use laws::{
     a_stopped_store_refuses, crc_values, history_goes_on, key_order_is_total, limits_are_kept,
     record_sizes, room_is_kept, writes_stand_for_the_map,
