@@ -21,41 +21,36 @@ enum Step {
     Rename = 9,
 }
 
-/// Each call is one more decimal digit of `noted`.
+/// What the runtime does. Each call is one more decimal digit of `noted`.
+#[derive(Clone, Copy)]
+struct Plan<'a> {
+    noted: &'a Cell<u64>,
+    /// The call with which `noted` is this number is refused.
+    refused_at: u64,
+    kind: ErrorKind,
+    /// How many bytes a file takes at most in one write.
+    takes: usize,
+}
+
+impl Plan<'_> {
+    fn note(&self, step: Step) -> io::Result<()> {
+        let noted = self.noted.get().wrapping_mul(10).wrapping_add(step as u64);
+        self.noted.set(noted);
+        if noted == self.refused_at {
+            return Err(Error::from(self.kind));
+        }
+        Ok(())
+    }
+}
+
 #[derive(Drop)]
 struct Fake<'a> {
-    noted: &'a Cell<u64>,
-    refused: u8,
-    kind: ErrorKind,
+    plan: Plan<'a>,
 }
 
-/// Notes a call, and refuses it where it is the one.
-fn note(noted: &Cell<u64>, refused: u8, kind: ErrorKind, step: Step) -> io::Result<()> {
-    noted.set(noted.get().wrapping_mul(10).wrapping_add(step as u64));
-    if refused == step as u8 {
-        return Err(Error::from(kind));
-    }
-    Ok(())
-}
-
-impl Fake<'_> {
-    fn note(&self, step: Step) -> io::Result<()> {
-        note(self.noted, self.refused, self.kind, step)
-    }
-}
-
-/// A file that takes at most two bytes at a time.
 #[derive(Drop)]
 struct FakeFile<'a> {
-    noted: &'a Cell<u64>,
-    refused: u8,
-    kind: ErrorKind,
-}
-
-impl FakeFile<'_> {
-    fn note(&self, step: Step) -> io::Result<()> {
-        note(self.noted, self.refused, self.kind, step)
-    }
+    plan: Plan<'a>,
 }
 
 impl Read for FakeFile<'_> {
@@ -66,8 +61,8 @@ impl Read for FakeFile<'_> {
 
 impl Write for FakeFile<'_> {
     fn write(&mut self, buf: &[u8]) -> io::Result<usize> {
-        self.note(Step::Write)?;
-        Ok(buf.len().min(2))
+        self.plan.note(Step::Write)?;
+        Ok(buf.len().min(self.plan.takes))
     }
 
     fn flush(&mut self) -> io::Result<()> {
@@ -91,7 +86,7 @@ impl OpenFile for FakeFile<'_> {
     }
 
     fn sync_all(&self) -> io::Result<()> {
-        self.note(Step::Sync)
+        self.plan.note(Step::Sync)
     }
 
     fn sync_data(&self) -> io::Result<()> {
@@ -99,7 +94,7 @@ impl OpenFile for FakeFile<'_> {
     }
 
     fn set_permissions(&self, _perm: Permissions) -> io::Result<()> {
-        self.note(Step::Permit)
+        self.plan.note(Step::Permit)
     }
 }
 
@@ -109,18 +104,14 @@ impl<'a> Files for Fake<'a> {
     type Dir = Empty;
 
     fn open_file(&self, how: &OpenOptions, _path: &str) -> io::Result<FakeFile<'a>> {
-        self.note(if how.asks_create_new() {
+        self.plan.note(if how.asks_create_new() {
             Step::Create
         } else if how.asks_write() {
             Step::OpenToWrite
         } else {
             Step::OpenToRead
         })?;
-        Ok(FakeFile {
-            noted: self.noted,
-            refused: self.refused,
-            kind: self.kind,
-        })
+        Ok(FakeFile { plan: self.plan })
     }
 
     fn open_dir(&self, _path: &str) -> io::Result<Empty> {
@@ -128,7 +119,7 @@ impl<'a> Files for Fake<'a> {
     }
 
     fn metadata(&self, _path: &str) -> io::Result<Metadata> {
-        self.note(Step::Look)?;
+        self.plan.note(Step::Look)?;
         Ok(Metadata::of_file(9))
     }
 
@@ -141,11 +132,11 @@ impl<'a> Files for Fake<'a> {
     }
 
     fn rename(&self, _from: &str, _to: &str) -> io::Result<()> {
-        self.note(Step::Rename)
+        self.plan.note(Step::Rename)
     }
 
     fn remove_file(&self, _path: &str) -> io::Result<()> {
-        self.note(Step::Remove)
+        self.plan.note(Step::Remove)
     }
 
     fn create_dir(&self, _path: &str) -> io::Result<()> {
@@ -171,58 +162,62 @@ impl Print for Fake<'_> {
     }
 
     fn write_all(&self, _bytes: &[u8]) -> io::Result<()> {
-        self.note(Step::Write)
+        self.plan.note(Step::Write)
     }
 }
 
-/// No step.
-const NONE: u8 = 0;
-
 #[test]
 fn a_file_is_written_and_synced_before_it_takes_the_name(rt: HostRuntime) {
-    let kind = ErrorKind::StorageFull;
     let fault = Err(HostFault::Fault);
+    // the call that is refused, how many bytes a write takes, the answer, and all calls
     let rows = [
-        (NONE, Ok(()), 1_2_3_4_5_6_777_8_9_8),
-        (Step::Look as u8, fault, 1),
-        (Step::OpenToWrite as u8, fault, 1_2),
-        (Step::OpenToRead as u8, fault, 1_2_3),
-        (Step::Remove as u8, Ok(()), 1_2_3_4_5_6_777_8_9_8),
-        (Step::Create as u8, fault, 1_2_3_4_5),
-        (Step::Permit as u8, fault, 1_2_3_4_5_6_4),
-        (Step::Write as u8, fault, 1_2_3_4_5_6_7_4),
-        (Step::Sync as u8, fault, 1_2_3_4_5_6_777_8_4),
-        (Step::Rename as u8, fault, 1_2_3_4_5_6_777_8_9_4),
+        (0, 5, Ok(()), 1_2_3_4_5_6_7_8_9_8),
+        (1, 5, fault, 1),
+        (1_2, 5, fault, 1_2),
+        (1_2_3, 5, fault, 1_2_3),
+        (1_2_3_4, 5, Ok(()), 1_2_3_4_5_6_7_8_9_8),
+        (1_2_3_4_5, 5, fault, 1_2_3_4_5),
+        (1_2_3_4_5_6, 5, fault, 1_2_3_4_5_6_4),
+        (1_2_3_4_5_6_7, 5, fault, 1_2_3_4_5_6_7_4),
+        (1_2_3_4_5_6_7_8, 5, fault, 1_2_3_4_5_6_7_8_4),
+        (1_2_3_4_5_6_7_8_9, 5, fault, 1_2_3_4_5_6_7_8_9_4),
+        (1_2_3_4_5_6_7_8_9_8, 5, fault, 1_2_3_4_5_6_7_8_9_8),
+        (0, 4, fault, 1_2_3_4_5_6_7_4),
     ];
-    for (refused, answer, calls) in rows {
+    for (refused_at, takes, answer, calls) in rows {
         let noted = Cell::new(0u64);
-        let fake = Fake {
+        let kind = ErrorKind::StorageFull;
+        let plan = Plan {
             noted: &noted,
-            refused,
+            refused_at,
             kind,
+            takes,
         };
+        let fake = Fake { plan };
         let mut host = StdHost::new(&fake);
         assert_eq!(rt;
             host.write_file("image", b"bytes"),
             answer,
-            "refused: {refused}"
+            "refused: {refused_at}"
         );
-        assert_eq!(rt; noted.get(), calls, "refused: {refused}");
+        assert_eq!(rt; noted.get(), calls, "refused: {refused_at}");
     }
 }
 
 #[test]
-fn a_new_file_is_made_without_permissions_of_an_old_one(rt: HostRuntime) {
+fn a_new_file_is_made_without_the_permissions_of_an_old_one(rt: HostRuntime) {
     let noted = Cell::new(0u64);
-    let (refused, kind) = (Step::Look as u8, ErrorKind::NotFound);
-    let fake = Fake {
+    let (refused_at, kind, takes) = (1, ErrorKind::NotFound, 5);
+    let plan = Plan {
         noted: &noted,
-        refused,
+        refused_at,
         kind,
+        takes,
     };
+    let fake = Fake { plan };
     let mut host = StdHost::new(&fake);
     assert_eq!(rt; host.write_file("image", b"bytes"), Ok(()));
-    assert_eq!(rt; noted.get(), 1_3_4_5_777_8_9_8);
+    assert_eq!(rt; noted.get(), 1_3_4_5_7_8_9_8);
 }
 
 #[test]
@@ -235,11 +230,13 @@ fn only_what_is_not_found_is_absent(rt: HostRuntime) {
     ];
     for (kind, refusal) in rows {
         let noted = Cell::new(0u64);
-        let fake = Fake {
+        let plan = Plan {
             noted: &noted,
-            refused: Step::OpenToRead as u8,
+            refused_at: 3,
             kind,
+            takes: 0,
         };
+        let fake = Fake { plan };
         let mut host = StdHost::new(&fake);
         let mut out = Vec::new(rt.alloc());
         assert_eq!(rt; host.read_file("image", 9, &mut out), Err(refusal));
@@ -249,13 +246,16 @@ fn only_what_is_not_found_is_absent(rt: HostRuntime) {
 
 #[test]
 fn bytes_are_printed_in_one_call(rt: HostRuntime) {
-    for (refused, answer) in [(NONE, Ok(())), (Step::Write as u8, Err(HostFault::Fault))] {
+    for (refused_at, answer) in [(0, Ok(())), (7, Err(HostFault::Fault))] {
         let noted = Cell::new(0u64);
-        let fake = Fake {
+        let kind = ErrorKind::BrokenPipe;
+        let plan = Plan {
             noted: &noted,
-            refused,
-            kind: ErrorKind::BrokenPipe,
+            refused_at,
+            kind,
+            takes: 0,
         };
+        let fake = Fake { plan };
         let mut host = StdHost::new(&fake);
         assert_eq!(rt; host.print(b"text"), answer);
         assert_eq!(rt; noted.get(), 7);

@@ -3,7 +3,7 @@ ghost use Rattle.std.specs.Prelude.{◌≡◌, ◌+◌, ◌++◌, ◌≤◌, ◌
 ghost use Rattle.std.specs.Io.KnownBytes.{Appends};
 
 use crate::interface::HostFault;
-use crate::whole::{done, opened, write_whole};
+use crate::whole::{done, opened, write_at_once};
 use arrayvec::ArrayString;
 use std::fs::{self, OpenFile, OpenOptions, Permissions};
 use std::io::Write;
@@ -65,7 +65,7 @@ fn fill<F: Write + OpenFile>(
     if let Some(permissions) = permissions {
         done(file.set_permissions(permissions))?;
     }
-    write_whole(file, bytes)?;
+    write_at_once(file, bytes)?;
     done(file.sync_all())
 }
 

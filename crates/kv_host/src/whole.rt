@@ -88,3 +88,18 @@ pub(crate) fn write_whole<W: Write>(sink: &mut W, bytes: &[u8]) -> Result<(), Ho
 {
     done(sink.write_all(bytes))
 }
+
+/// Writes all the bytes behind those that a sink holds, in one call. A file takes fewer only where it may grow no
+/// further. Then there is no second call, at which the system would end the program.
+///
+/// # Errors
+/// `Fault` alone, where the write failed or took fewer.
+pub(crate) fn write_at_once<W: Write>(sink: &mut W, bytes: &[u8]) -> Result<(), HostFault>
+    ensures whole { OnOk result (Appends (W.contents sink.old) (W.contents sink.new) bytes.now) }
+    ensures refused { IfErr result (λ e. e ≡ HostFault.Fault) }
+{
+    match sink.write(bytes) {
+        Ok(count) if count == bytes.len() => Ok(()),
+        Ok(_) | Err(_) => Err(HostFault::Fault),
+    }
+}
