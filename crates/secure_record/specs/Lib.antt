@@ -1,0 +1,4 @@
+pub mod Metadata
+pub mod Sealed
+pub mod Unseal
+pub mod Streams
