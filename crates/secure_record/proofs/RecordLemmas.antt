@@ -6,13 +6,14 @@ use Rattle.std.specs.Str.{bytes_eq}
 use Rattle.std.specs.Bool.{Decides}
 use Rattle.std.proofs.lemmas.Bool.{false≢true}
 use Rattle.std.proofs.lemmas.Slice.Eq.{bytes_eq-Decides}
-use Rattle.std.proofs.lemmas.List.{take_at, drop_at, take-append-drop, length-take, length-drop, length-append, drop-drop, take_all, take-take}
+use Rattle.std.proofs.lemmas.List.{take_at, drop_at, take-append-drop, length-take, length-drop, length-append, drop-drop, take-take}
+use Rattle.cipher_core.specs.Cmac.{cmac}
 use Rattle.secure_record.specs.declared.metadata.Revision.{Revision}
 use Rattle.secure_record.specs.declared.metadata.Revision.TheVariants.{First, Second}
 use Rattle.secure_record.specs.declared.metadata.Metadata.{Metadata}
 use Rattle.secure_record.specs.Metadata.{metadata_size, spelling, first_in, second_in, prior_in, record_size, is_metadata, metadata_of, HasPrior, IsHead, IsMetadata}
 use Rattle.secure_record.specs.Sealed.{stored, opened, record_tag, sealed}
-use Rattle.secure_record.specs.Unseal.{Opened, opened_as, stored_in, tag_in, unseal, unseal_by}
+use Rattle.secure_record.specs.Unseal.{Opened, opened_as, stored_in, tag_in, unseal, unseal_by, IsInParts, WasSealed}
 use Rattle.secure_record.proofs.MetadataLemmas.{StandsIn, stands, is_metadata-true, metadata_of-first, metadata_of-second, first_read, second_read, second_is_not_first}
 use Rattle.secure_record.proofs.BodyLemmas.{stored-twice, length-stored}
 
@@ -136,6 +137,20 @@ head_long m head total is_head h = omega (arith, metadata_size-most m.revision, 
 
 -- ---- whole records
 
+-- the metadata of a record
+pub metadata_of_record : (m : Metadata) (bytes tag : List ℕ) → IsMetadata m → length bytes ≡ m.size → length tag ≡ 16
+    → metadata_of (take 40 (spelling m ++ bytes ++ tag)) (length (spelling m ++ bytes ++ tag)) ≡ Some m
+metadata_of_record m bytes tag valid long tag_long =
+    let whole : List ℕ = spelling m ++ bytes ++ tag in
+    let n : ℕ = metadata_size m.revision in
+    let spelled : length (spelling m) ≡ n = length-spelling m valid in
+    let front : take n (take 40 whole) ≡ spelling m =
+    take-take n 40 whole (metadata_size-most m.revision)
+    ∙ ap (take n) (append_assoc (spelling m) bytes tag) ∙ take_at (spelling m) (bytes ++ tag) n spelled in
+    let total : length whole ≡ record_size m =
+    omega (arith, length-append (spelling m ++ bytes) tag, length-append (spelling m) bytes, spelled, long, tag_long) in
+    metadata_found m (take 40 whole) (length whole) valid front total
+
 -- a record opens exactly where its tag is its CMAC
 pub unseal_record : (root key : List ℕ) (m : Metadata) (bytes tag : List ℕ) → IsMetadata m → length bytes ≡ m.size → length tag ≡ 16
     → unseal root key (spelling m ++ bytes ++ tag) ≡ (if bytes_eq tag (record_tag root key m bytes) then Some (opened_as root key m bytes) else None)
@@ -146,16 +161,12 @@ unseal_record root key m bytes tag valid long tag_long =
     let spelled : length (spelling m) ≡ n = length-spelling m valid in
     let front_long : length (spelling m ++ bytes) ≡ n + m.size = omega (arith, length-append (spelling m) bytes, spelled, long) in
     let split : whole ≡ spelling m ++ (bytes ++ tag) = append_assoc (spelling m) bytes tag in
-    let front : take n (take 40 whole) ≡ spelling m =
-    take-take n 40 whole (metadata_size-most m.revision) ∙ ap (take n) split ∙ take_at (spelling m) (bytes ++ tag) n spelled in
-    let total : length whole ≡ record_size m = omega (arith, length-append (spelling m ++ bytes) tag, front_long, tag_long) in
-    let found : metadata_of (take 40 whole) (length whole) ≡ Some m = metadata_found m (take 40 whole) (length whole) valid front total in
     let width : n + m.size - n ≡ m.size = omega arith in
     let stored_is : stored_in m whole ≡ bytes =
     ap (λ (k : ℕ). take k (drop n whole)) width
     ∙ ap (take m.size) (ap (drop n) split ∙ drop_at (spelling m) (bytes ++ tag) n spelled) ∙ take_at bytes tag m.size long in
     let tag_is : tag_in m whole ≡ tag = drop_at (spelling m ++ bytes) tag (n + m.size) front_long in
-    ap (unseal_by root key whole) found
+    ap (unseal_by root key whole) (metadata_of_record m bytes tag valid long tag_long)
     ∙ ap₂ (λ (b t : List ℕ). if bytes_eq t (record_tag root key m b) then Some (opened_as root key m b) else None) stored_is tag_is
 
 choose-true : (same : Bool) (o : Opened) → same ≡ true → (if same then Some o else None) ≡ Some o
@@ -189,3 +200,82 @@ unseal_sealed root key m value valid long tag_long =
     let bytes : List ℕ = stored root key m.flags m.vector value in
     unseal_right root key m bytes (record_tag root key m bytes) valid (length-stored root key m.flags m.vector value ∙ long) tag_long refl
     ∙ ap (λ (v : List ℕ). Some (record { flags = m.flags; vector = m.vector; value = v })) (stored-twice root key m.flags m.vector value)
+
+-- ---- the parts of what begins with metadata
+
+is_head : (bytes : List ℕ) → IsHead (take 40 bytes) (length bytes)
+is_head bytes = length-take 40 bytes
+
+pub in_parts : (bytes : List ℕ) (m : Metadata) → metadata_of (take 40 bytes) (length bytes) ≡ Some m → IsInParts bytes m
+in_parts bytes m found =
+    let is = found_is (take 40 bytes) (length bytes) m (is_head bytes) found in
+    let n : ℕ = metadata_size m.revision in
+    let front : take n bytes ≡ spelling m = sym (take-take n 40 bytes (metadata_size-most m.revision)) ∙ is.stands.spelled in
+    let total : length bytes ≡ n + m.size + 16 = is.stands.whole in
+    let width : n + m.size - n ≡ m.size = omega arith in
+    let behind : drop n bytes ≡ stored_in m bytes ++ tag_in m bytes =
+    sym (take-append-drop m.size (drop n bytes))
+    ∙ ap₂ (λ (a b : List ℕ). a ++ b) (ap (λ (k : ℕ). take k (drop n bytes)) (sym width)) (drop-drop m.size n bytes) in
+    record {
+      valid = is.valid;
+      joined =
+          sym (take-append-drop n bytes) ∙ ap₂ (λ (a b : List ℕ). a ++ b) front behind
+          ∙ sym (append_assoc (spelling m) (stored_in m bytes) (tag_in m bytes));
+      stored = omega (arith, length-take (n + m.size - n) (drop n bytes), length-drop n bytes, total);
+      tag = omega (arith, length-drop (n + m.size) bytes, total);
+    }
+
+pub unseal-none : (root key bytes : List ℕ) → metadata_of (take 40 bytes) (length bytes) ≡ None → unseal root key bytes ≡ None
+unfolding unseal
+unseal-none root key bytes none = ap (unseal_by root key bytes) none
+
+chosen : (same : Bool) (o p : Opened) → (if same then Some o else None) ≡ Some p → (same ≡ true) × (o ≡ p)
+chosen true o p is = (refl, cc)
+chosen false o p is = absurd (cc)
+
+-- ---- what is opened was sealed
+
+was_sealed_by : (root key bytes : List ℕ) (o : Opened) (found : Option Metadata) → metadata_of (take 40 bytes) (length bytes) ≡ found
+    → unseal_by root key bytes found ≡ Some o → WasSealed root key bytes o
+unfolding sealed
+was_sealed_by root key bytes o None found is = absurd (cc)
+was_sealed_by root key bytes o (Some m) found is =
+    let parts = in_parts bytes m found in
+    let body : List ℕ = stored_in m bytes in
+    let same = chosen (bytes_eq (tag_in m bytes) (record_tag root key m body)) (opened_as root key m body) o is in
+    let tag : tag_in m bytes ≡ record_tag root key m body = (bytes_eq-Decides (tag_in m bytes) (record_tag root key m body)).0 same.0 in
+    let value : o.value ≡ opened root key m.flags m.vector body = sym (ap (λ (x : Opened). x.value) same.1) in
+    let again : stored root key m.flags m.vector o.value ≡ body =
+    ap (stored root key m.flags m.vector) value ∙ stored-twice root key m.flags m.vector body in
+    record {
+      metadata = m;
+      valid = parts.valid;
+      flags = ap (λ (x : Opened). x.flags) same.1;
+      vector = ap (λ (x : Opened). x.vector) same.1;
+      size = sym parts.stored ∙ sym (length-stored root key m.flags m.vector body) ∙ ap length (sym value);
+      bytes_are =
+          parts.joined ∙ ap (λ (t : List ℕ). spelling m ++ body ++ t) tag
+          ∙ ap (λ (b : List ℕ). spelling m ++ b ++ record_tag root key m b) (sym again);
+    }
+
+pub was_sealed : (root key bytes : List ℕ) (o : Opened) → unseal root key bytes ≡ Some o → WasSealed root key bytes o
+unfolding unseal
+was_sealed root key bytes o is = was_sealed_by root key bytes o (metadata_of (take 40 bytes) (length bytes)) refl is
+
+-- ---- one reading
+
+some_same : {T : Type 0} (x y : T) → Some x ≡ Some y → x ≡ y
+some_same x y same = cc
+
+pub one_reading : (root key : List ℕ) (m n : Metadata) (v w : List ℕ) → ((k message : List ℕ) → length (cmac k message) ≡ 16)
+    → IsMetadata m → IsMetadata n → length v ≡ m.size → length w ≡ n.size → sealed root key m v ≡ sealed root key n w → (m ≡ n) × (v ≡ w)
+unfolding sealed record_tag
+one_reading root key m n v w tags valid_m valid_n long_m long_n same =
+    let first = metadata_of_record m (stored root key m.flags m.vector v) (record_tag root key m (stored root key m.flags m.vector v)) valid_m
+    (length-stored root key m.flags m.vector v ∙ long_m) (tags _ _) in
+    let second = metadata_of_record n (stored root key n.flags n.vector w) (record_tag root key n (stored root key n.flags n.vector w)) valid_n
+    (length-stored root key n.flags n.vector w ∙ long_n) (tags _ _) in
+    let one = unseal_sealed root key m v valid_m long_m (tags _ _) in
+    let two = unseal_sealed root key n w valid_n long_n (tags _ _) in
+    let opens = some_same _ _ (sym one ∙ ap (unseal root key) same ∙ two) in
+    (some_same m n (sym first ∙ ap (λ (xs : List ℕ). metadata_of (take 40 xs) (length xs)) same ∙ second), ap (λ (o : Opened). o.value) opens)

@@ -9,10 +9,9 @@ use Rattle.kv_model.specs.declared.error.KvError.{KvError}
 use Rattle.kv_model.specs.declared.error.KvError.TheVariants.{AuthFailed}
 use Rattle.secure_record.specs.declared.metadata.Metadata.{Metadata}
 use Rattle.secure_record.specs.declared.body.BodyStream.{BodyStream}
-use Rattle.secure_record.specs.declared.seal.SealStream.{SealStream}
-use Rattle.secure_record.specs.declared.open.OpenStream.{OpenStream}
 use Rattle.secure_record.specs.Metadata.{spelling, metadata_of, IsMetadata}
 use Rattle.secure_record.specs.Sealed.{first_counter, opened, stored, record_tag}
+use Rattle.secure_record.specs.States.{SealState, OpenState}
 use Rattle.secure_record.specs.Unseal.{Opened, opened_as, unseal}
 
 -- ---- counter mode where there is a cipher, and nothing where there is none
@@ -40,17 +39,17 @@ pub record HasTaken (s : BodyStream) (root key : List ℕ) (m : Metadata) (bytes
   pub left : s.left + length bytes ≡ m.size
 
 -- the front of a value is sealed
-pub record HasSealed (s : SealStream) (root key : List ℕ) (m : Metadata) (front : List ℕ) : Type 0 where
+pub record HasSealed (s : SealState) (root key : List ℕ) (m : Metadata) (front : List ℕ) : Type 0 where
   pub head : s.head ≡ spelling m
   pub body : HasTaken s.body root key m (stored root key m.flags m.vector front)
 
 -- the front of the stored bytes is opened
-pub record HasOpened (s : OpenStream) (root key front : List ℕ) : Type 0 where
+pub record HasOpened (s : OpenState) (root key front : List ℕ) : Type 0 where
   pub metadata : IsMetadata s.metadata
   pub body : HasTaken s.body root key s.metadata front
 
 -- a stream over the metadata that was found, or a refusal where there is none
-abbrev pub Begins : Result OpenStream KvError → List ℕ → List ℕ → Option Metadata → Type 0
+abbrev pub Begins : Result OpenState KvError → List ℕ → List ℕ → Option Metadata → Type 0
 Begins (Ok s) root key found = (found ≡ Some s.metadata) × HasOpened s root key []
 Begins (Err e) root key found = (found ≡ None) × (e ≡ AuthFailed)
 

@@ -1,9 +1,9 @@
 -- The reading of whole sealed records.
-use Rattle.std.specs.Prelude.{ℕ, ◌+◌, if◌then◌else◌, List, length, take, drop, slice_range, Option, Some, None}
+use Rattle.std.specs.Prelude.{◌≡◌, ◌++◌, ℕ, ◌+◌, if◌then◌else◌, List, length, take, drop, slice_range, Option, Some, None}
 use Rattle.std.specs.Str.{bytes_eq}
 use Rattle.secure_record.specs.declared.metadata.Metadata.{Metadata}
-use Rattle.secure_record.specs.Metadata.{metadata_of, metadata_size}
-use Rattle.secure_record.specs.Sealed.{opened, record_tag}
+use Rattle.secure_record.specs.Metadata.{metadata_of, metadata_size, spelling, IsMetadata}
+use Rattle.secure_record.specs.Sealed.{opened, record_tag, sealed}
 
 -- what a record seals, with the vector that its metadata has
 pub record Opened : Type 0 where
@@ -30,3 +30,19 @@ unseal_by root key bytes (Some m) =
 -- what the bytes seal for this key: nothing where they have metadata of neither revision or another CMAC
 unfoldable pub unseal : List ℕ → List ℕ → List ℕ → Option Opened
 unseal root key bytes = unseal_by root key bytes (metadata_of (take 40 bytes) (length bytes))
+
+-- the bytes are the record of what they open to, with some metadata of either revision
+pub record WasSealed (root key bytes : List ℕ) (o : Opened) : Type 0 where
+  pub metadata : Metadata
+  pub valid : IsMetadata metadata
+  pub flags : metadata.flags ≡ o.flags
+  pub vector : metadata.vector ≡ o.vector
+  pub size : metadata.size ≡ length o.value
+  pub bytes_are : bytes ≡ sealed root key metadata o.value
+
+-- the bytes are the metadata, the stored bytes of its size, and 16 bytes more
+pub record IsInParts (bytes : List ℕ) (m : Metadata) : Type 0 where
+  pub valid : IsMetadata m
+  pub joined : bytes ≡ spelling m ++ stored_in m bytes ++ tag_in m bytes
+  pub stored : length (stored_in m bytes) ≡ m.size
+  pub tag : length (tag_in m bytes) ≡ 16

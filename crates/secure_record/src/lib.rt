@@ -11,7 +11,7 @@
 #![tactic(auto)]
 
 mod body;
-mod laws;
+pub mod laws;
 mod metadata;
 mod open;
 mod seal;

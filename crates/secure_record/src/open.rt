@@ -8,6 +8,7 @@ ghost use Rattle.secure_record.specs.Streams.{record_read, Begins, Ends, HasOpen
 use crate::body::BodyStream;
 use crate::metadata::Metadata;
 use kv_model::{Flags, Key, KvError};
+use std::marker::Model;
 
 /// A sealed record, of either revision, that is read piece by piece.
 ///
@@ -16,6 +17,14 @@ use kv_model::{Flags, Key, KvError};
 pub struct OpenStream {
     metadata: Metadata,
     body: BodyStream,
+}
+
+impl Model for OpenStream {
+    ghost use Rattle.secure_record.specs.States.{OpenState};
+
+    ghost Value = { OpenState };
+
+    ghost view = { λ s. record { metadata = s.metadata; body = s.body } };
 }
 
 impl OpenStream {

@@ -7,6 +7,7 @@ ghost use Rattle.secure_record.specs.declared.metadata.Metadata.{Metadata};
 use crate::body::BodyStream;
 use crate::metadata::{Metadata, Revision};
 use kv_model::{Flags, Key};
+use std::marker::Model;
 
 /// A value that is sealed piece by piece, in a record of revision 2.
 ///
@@ -15,6 +16,14 @@ use kv_model::{Flags, Key};
 pub struct SealStream {
     head: [u8; 40],
     body: BodyStream,
+}
+
+impl Model for SealStream {
+    ghost use Rattle.secure_record.specs.States.{SealState};
+
+    ghost Value = { SealState };
+
+    ghost view = { λ s. record { head = s.head; body = s.body } };
 }
 
 // The vector of a record: the number of its seal, and zero where there are no flags.
