@@ -1,0 +1,6 @@
+pub mod Books
+pub mod Passes
+pub mod Rule
+pub mod Steps
+pub mod Totals
+pub mod Views
