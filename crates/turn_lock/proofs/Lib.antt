@@ -6,3 +6,4 @@ pub mod Starting
 pub mod Totals
 pub mod Turning
 pub mod Uniting
+pub mod Waiting

@@ -1,4 +1,5 @@
 pub mod Books
+pub mod Lending
 pub mod Passes
 pub mod Rule
 pub mod Steps

@@ -6,7 +6,7 @@ use Rattle.kv_model.specs.declared.call.Entry.{Entry}
 use Rattle.kv_model.specs.Opening.{Opening}
 use Rattle.turn_lock.specs.Books.{Book}
 use Rattle.turn_lock.specs.Totals.{times, once}
-use Rattle.turn_lock.specs.Views.{ALL, taken, loaded}
+use Rattle.turn_lock.specs.Views.{ALL, taken, loaded, with_found}
 use Rattle.turn_lock.specs.Steps.{IsNext}
 use Rattle.turn_lock.specs.declared.view.View.{View}
 use Rattle.turn_lock.specs.declared.view.Phase.TheVariants.{Idle, Loaded}
@@ -38,13 +38,17 @@ module _ {S : Type 0} (stands_for : S → Opening → Type 0) (book : S → Book
     pub marks : (who : ℕ) → 0 < times who old.marks → (book x).quitter ≡ Some who
     pub short : length (book x).entries ≤ ALL
 
+  -- the same, after any number of exchanges that found the turn taken
+  abbrev pub HasTurnLater : View → S → View → Type 0
+  HasTurnLater old x new = (found : List ℕ) × HasTurn (with_found found old) x new
+
   -- the value may be noted by a pass at its turn
   pub record MayNote (v : View) (x : S) : Type 0 where
     pub stands : stands_for x v.opening
     pub next : IsNext v (book x)
 
   -- the value is as last noted
-  pub record IsNoted (v : View) (x : S) : Type 0 where
+  pub record AreNoted (v : View) (x : S) : Type 0 where
     pub stands : stands_for x v.opening
     pub entries : (book x).entries ≡ v.noted
     pub first : (book x).quitter ≡ v.quitter

@@ -53,6 +53,10 @@ spent = record {
 abbrev pub missed : ℕ → View → View
 missed n v = record v { found = v.found ++ n ∷ [] }
 
+-- exchanges found these in place of 0
+abbrev pub with_found : List ℕ → View → View
+with_found found v = record v { found = v.found ++ found }
+
 -- an exchange found 0, and the slot had a value with this history and first quitter
 abbrev pub taken : Book → View → View
 taken book v = record v { phase = Taken; noted = book.entries; quitter = book.quitter; had = v.had + 1 }
@@ -107,3 +111,7 @@ settled v = record v { shorter = [] }
 
 abbrev pub joined : View → View → View
 joined v w = settled (both v w)
+
+-- the whole of what two passes have seen, in place of its own
+abbrev pub with_seen : List Entry → View → View
+with_seen seen v = record v { seen = seen; shorter = [] }

@@ -2,11 +2,13 @@
 #![tactic(auto)]
 
 mod booked;
+mod held;
 mod pass;
 mod plays;
 mod turns;
 mod view;
 
 pub use booked::Booked;
-pub use pass::{Held, Pass, Taken};
+pub use held::{Held, Taken};
+pub use pass::Pass;
 pub use turns::Turns;

@@ -1,4 +1,4 @@
-// A pass, and the value while its pass has the turn.
+// A pass.
 ghost use Rattle.std.specs.Prelude.{◌≡◌, ◌≤◌, length};
 
 use crate::view::View;
@@ -49,23 +49,4 @@ impl<S> Pass<S> {
     {
         self.parts
     }
-}
-
-/// The value, while a pass has the turn. It can't be dropped: it ends by `Turns::give`.
-pub struct Held<S> {
-    pub(crate) state: S,
-}
-
-impl<S> Held<S> {
-    /// Lends the value for writing.
-    pub fn state(&mut self) -> &mut S {
-        &mut self.state
-    }
-}
-
-/// Another pass has the turn.
-#[derive(Clone, Copy, Debug, PartialEq, Eq)]
-pub struct Taken {
-    /// What this call's one exchange found. It is not 0.
-    pub word: u64,
 }

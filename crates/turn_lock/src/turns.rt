@@ -3,17 +3,24 @@
 // Word 0 is 1 while a pass has the turn, and else 0. Word 1 is the length of the history. The slot has the value while
 // no pass has the turn.
 ghost use Rattle.std.specs.Prelude.{◌≡◌, [], ◌∷◌, Some, None, IsSome, IfOk, IfErr};
-ghost use Rattle.turn_lock.specs.Views.{first_view, missed};
-ghost use Rattle.turn_lock.specs.Passes.{view_of, IsIdle, IsAtTurn, HasTurn};
+ghost use Rattle.std.specs.Prelude.{◌+◌, ◌-◌, ◌<◌, ◌≤◌, ◌++◌, length};
+ghost use mathlib.Core.List.{IsPrefix};
+ghost use Rattle.turn_lock.specs.Views.{ALL, both, first_view, in_phase, joined, longer, missed, newcomer, noted, with_parts, with_seen};
+ghost use Rattle.turn_lock.specs.Steps.{IsNext, IsSmall};
+ghost use Rattle.turn_lock.specs.Passes.{view_of, AreNoted, HasClosed, HasTurn, HasTurnLater, IsAtTurn, IsIdle, MayNote};
+ghost use Rattle.turn_lock.specs.declared.view.Phase.TheVariants.{Idle, Loaded};
 
 use crate::booked::Booked;
-use crate::pass::{Held, Pass, Taken};
-use crate::plays::{Load, Take};
+use crate::held::{Held, Taken};
+use crate::pass::Pass;
+use crate::plays::{Close, Give, Load, Look, Note, Noting, Share, Sharing, Take, Unite};
 use crate::view::View;
-use atomic_table::{Refused, Table, TableRule};
+use atomic_table::{Refused, Seat, Table, TableRule};
 use kv_model::NoMemory;
 use std::alloc::{AllocFailed, Global};
+use std::marker::Brand;
 use std::snapshot::Snapshot;
+use std::sync::Wait;
 
 const TURN: usize = 0;
 
@@ -89,6 +96,111 @@ impl<S: Booked> Turns<S> {
         let state = only(shared.exchange(&mut pass.seat, SLOT, None));
         pass.seen = shared.load::<Load>(&mut pass.seat, LENGTH) as u32;
         Ok(Held { state })
+    }
+
+    /// Waits for the turn.
+    pub fn take<R: Wait>(&self, rt: &R, pass: &mut Pass<S>) -> Held<S>
+        requires { IsIdle self.now.table.shared.table_id pass.old }
+        ensures turn { IsAtTurn self.now.table.shared.table_id pass.new }
+        ensures value { HasTurnLater S.stands_for S.book (view_of pass.old) result.state (view_of pass.new) }
+    {
+        for _ in rt.forever() {
+            match self.try_take(pass) {
+                Ok(held) => return held,
+                Err(Taken { word: _ }) => self.table.shared.park(rt, TURN, 1),
+            }
+        }
+        unreachable!()
+    }
+
+    /// Notes the value's history as it now is. It has no entry more than when it was last noted, or one more: that
+    /// one's position is then the pass's own. Where the value now names the pass's caller as the first that quit,
+    /// and named nobody before, the pass has its mark.
+    pub fn note(&self, pass: &mut Pass<S>, held: &mut Held<S>)
+        requires turn { IsAtTurn self.now.table.shared.table_id pass.old }
+        requires value { MayNote S.stands_for S.book (view_of pass.old) held.old.state }
+        ensures turn { IsAtTurn self.now.table.shared.table_id pass.new }
+        ensures view { view_of pass.new ≡ noted (S.book held.old.state) (view_of pass.old) }
+        ensures value { held.new.state ≡ held.old.state }
+    {
+        let count = held.state.count();
+        if count > u64::from(pass.seen) {
+            pass.made += 1;
+        }
+        self.note_as::<Brand>(&mut pass.seat, &held.state, count);
+        pass.seen = count as u32;
+    }
+
+    fn note_as<N: Noting>(&self, seat: &mut Seat<Option<S>, View>, _value: &S, count: u64)
+        requires value { N.book ≡ S.book _value.now }
+        requires table { seat.old.table_id ≡ self.now.table.shared.table_id }
+        requires turn { seat.old.me.0.phase ≡ Loaded }
+        requires next { IsNext seat.old.me.0 N.book }
+        requires count { count ≡ length N.book.entries }
+        ensures seat { seat.new.table_id ≡ seat.old.table_id }
+        ensures me { seat.new.me ≡ (noted N.book seat.old.me.0, seat.old.me.1) }
+        ensures short { count ≤ ALL }
+    {
+        self.table.shared.store::<Note<N>>(seat, LENGTH, count);
+    }
+
+    /// Gives the turn back, with the value as it was last noted.
+    pub fn give(&self, pass: &mut Pass<S>, held: Held<S>)
+        requires turn { IsAtTurn self.now.table.shared.table_id pass.old }
+        requires value { AreNoted S.stands_for S.book (view_of pass.old) held.state }
+        ensures idle { IsIdle self.now.table.shared.table_id pass.new }
+        ensures view { view_of pass.new ≡ in_phase Idle (view_of pass.old) }
+    {
+        let Held { state } = held;
+        none(self.table.shared.exchange(&mut pass.seat, SLOT, Some(state)));
+        self.table.shared.store::<Give>(&mut pass.seat, TURN, 0);
+        self.table.shared.wake_one(TURN);
+    }
+
+    /// A pass for another thread, under a number, which has seen the same and owns nothing. It gets `parts` of the
+    /// old one's parts.
+    pub fn split(&self, pass: &mut Pass<S>, who: u8, parts: u32) -> Pass<S>
+        requires idle { IsIdle self.now.table.shared.table_id pass.old }
+        requires some { 1 ≤ parts }
+        requires kept { parts < (view_of pass.old).parts }
+        requires own { length (view_of pass.old).own + parts ≤ (view_of pass.old).parts }
+        ensures idle { IsIdle self.now.table.shared.table_id pass.new × IsIdle self.now.table.shared.table_id result }
+        ensures old { view_of pass.new ≡ with_parts ((view_of pass.old).parts - parts) (view_of pass.old) }
+        ensures new { view_of result ≡ newcomer who (view_of pass.old).opening (view_of pass.old).seen parts }
+    {
+        let seat = self.share::<Brand>(&mut pass.seat, who, parts);
+        pass.parts -= parts;
+        Pass {
+            who,
+            seen: pass.seen,
+            made: 0,
+            parts,
+            seat,
+        }
+    }
+
+    fn share<H: Sharing>(
+        &self,
+        seat: &mut Seat<Option<S>, View>,
+        _who: u8,
+        _parts: u32,
+    ) -> Seat<Option<S>, View>
+        requires table { seat.old.table_id ≡ self.now.table.shared.table_id }
+        requires idle { seat.old.me.0.phase ≡ Idle }
+        requires parts { length seat.old.me.0.own + H.parts ≤ seat.old.me.0.parts }
+        ensures old { (seat.new.table_id ≡ seat.old.table_id) × (seat.new.me ≡ (with_parts (seat.old.me.0.parts - H.parts) seat.old.me.0, seat.old.me.1)) }
+        ensures new { (result.table_id ≡ seat.old.table_id) × (result.me ≡ (newcomer H.who seat.old.me.0.opening seat.old.me.0.seen H.parts, [])) }
+    {
+        self.table.shared.split_seat::<Share<H>>(seat)
+    }
+}
+
+fn none<S>(value: Option<S>)
+    requires { value ≡ None }
+{
+    match value {
+        Some(_) => unreachable!(),
+        None => (),
     }
 }
 
