@@ -1,4 +1,6 @@
+pub mod Closing
 pub mod Keeping
+pub mod Meeting
 pub mod Noting
 pub mod Prefixes
 pub mod Sharing

@@ -1,5 +1,5 @@
 -- Totals over the views, where one view changes, or one is added.
-use Rattle.std.proofs.Common.{◌≡◌, ◌≢◌, ℕ, zero, suc, ◌+◌, ◌-◌, ◌≤◌, ◌<◌, min, List, [], ◌∷◌, ◌++◌, set, refl, sym, ap, ◌∙◌, subst, if◌then◌else◌, arith, eq-eqb, ne_eqb}
+use Rattle.std.proofs.Common.{◌≡◌, ◌≢◌, ℕ, zero, suc, ◌+◌, ◌-◌, ◌≤◌, ◌<◌, min, List, [], ◌∷◌, ◌++◌, set, refl, sym, ap, ◌∙◌, subst, if◌then◌else◌, ◌==◌, Bool, true, false, length, arith, eq-eqb, ne_eqb}
 use mathlib.Core.Option.{some, some-injective, some-ne-none}
 use mathlib.Core.Logic.{dite}
 use native.Mathlib.Decide.{ℕ_discrete}
@@ -34,6 +34,13 @@ module _ {A : Type 0} (f : A → ℕ) where
 pub times-append : (x : ℕ) (xs ys : List ℕ) → times x (xs ++ ys) ≡ times x xs + times x ys
 times-append x [] ys = omega arith
 times-append x (y ∷ xs) ys = omega (arith, times-append x xs ys)
+
+pub times-length : (x : ℕ) (xs : List ℕ) → times x xs ≤ length xs
+times-length x [] = omega arith
+times-length x (y ∷ ys) = omega (arith, times-length x ys, at_most_one (x == y)) where
+  at_most_one : (b : Bool) → (if b then 1 else 0) ≤ 1
+  at_most_one true = omega arith
+  at_most_one false = omega arith
 
 pub is_one-same : (x : ℕ) → is_one x x ≡ 1
 is_one-same x = ap (λ b. if b then 1 else 0) (eq-eqb x x refl)

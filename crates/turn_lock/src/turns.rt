@@ -7,8 +7,8 @@ ghost use Rattle.std.specs.Prelude.{◌+◌, ◌-◌, ◌<◌, ◌≤◌, ◌++�
 ghost use mathlib.Core.List.{IsPrefix};
 ghost use Rattle.turn_lock.specs.Views.{ALL, both, first_view, in_phase, joined, longer, missed, newcomer, noted, with_parts, with_seen};
 ghost use Rattle.turn_lock.specs.Steps.{IsNext, IsSmall};
-ghost use Rattle.turn_lock.specs.Passes.{view_of, AreNoted, HasClosed, HasTurn, HasTurnLater, IsAtTurn, IsIdle, MayNote};
-ghost use Rattle.turn_lock.specs.declared.view.Phase.TheVariants.{Idle, Loaded};
+ghost use Rattle.turn_lock.specs.Passes.{view_of, AreNoted, BothBegin, HasClosed, HasHeard, HasTurn, HasTurnLater, HaveMet, IsAtTurn, IsIdle, IsIdleSeat, MayNote};
+ghost use Rattle.turn_lock.specs.declared.view.Phase.TheVariants.{Closing, Idle, Loaded};
 
 use crate::booked::Booked;
 use crate::held::{Held, Taken};
@@ -192,6 +192,95 @@ impl<S: Booked> Turns<S> {
         ensures new { (result.table_id ≡ seat.old.table_id) × (result.me ≡ (newcomer H.who seat.old.me.0.opening seat.old.me.0.seen H.parts, [])) }
     {
         self.table.shared.split_seat::<Share<H>>(seat)
+    }
+
+    /// Takes another pass into this one, which then has seen what either had, owns what both owned, and has the parts
+    /// and the marks of both.
+    pub fn join(&self, into: &mut Pass<S>, other: Pass<S>)
+        requires into { IsIdle self.now.table.shared.table_id into.old }
+        requires other { IsIdle self.now.table.shared.table_id other }
+        ensures idle { IsIdle self.now.table.shared.table_id into.new }
+        ensures view { view_of into.new ≡ joined (view_of into.old) (view_of other) }
+        ensures begins { BothBegin (view_of into.old).seen (view_of other).seen (view_of into.new).seen }
+    {
+        let Pass {
+            who: _,
+            seen,
+            made,
+            parts,
+            seat,
+        } = other;
+        self.unite(&mut into.seat, seat);
+        into.seen = into.seen.max(seen);
+        into.made += made;
+        into.parts += parts;
+    }
+
+    fn unite(&self, seat: &mut Seat<Option<S>, View>, other: Seat<Option<S>, View>)
+        requires seat { IsIdleSeat self.now.table.shared.table_id seat.old }
+        requires other { IsIdleSeat self.now.table.shared.table_id other }
+        ensures seat { IsIdleSeat self.now.table.shared.table_id seat.new }
+        ensures view { seat.new.me.0 ≡ joined seat.old.me.0 other.me.0 }
+        ensures begins { BothBegin seat.old.me.0.seen other.me.0.seen seat.new.me.0.seen }
+        ensures small { IsSmall seat.new.me.0 }
+    {
+        self.table.shared.join_seat::<Unite>(seat, other);
+        self.table.shared.load::<Look>(seat, LENGTH);
+    }
+
+    /// Two passes tell each other what they have seen: both have then seen one list, which begins with what each had
+    /// seen. It waits for nobody.
+    pub fn meet(&self, one: &mut Pass<S>, other: &mut Pass<S>)
+        requires one { IsIdle self.now.table.shared.table_id one.old }
+        requires other { IsIdle self.now.table.shared.table_id other.old }
+        ensures idle { IsIdle self.now.table.shared.table_id one.new × IsIdle self.now.table.shared.table_id other.new }
+        ensures met { HaveMet (view_of one.old) (view_of other.old) (view_of one.new) (view_of other.new) }
+    {
+        self.tell(one, other);
+        self.tell(other, one);
+    }
+
+    fn tell(&self, from: &mut Pass<S>, to: &mut Pass<S>)
+        requires from { IsIdle self.now.table.shared.table_id from.old }
+        requires to { IsIdle self.now.table.shared.table_id to.old }
+        ensures idle { IsIdle self.now.table.shared.table_id from.new × IsIdle self.now.table.shared.table_id to.new }
+        ensures from { view_of from.new ≡ view_of from.old }
+        ensures to { HasHeard (view_of to.old) (view_of from.old).seen (view_of to.new) }
+    {
+        let copy = self.share::<Brand>(&mut from.seat, from.who, 0);
+        self.unite(&mut to.seat, copy);
+        to.seen = to.seen.max(from.seen);
+    }
+
+    /// Takes the last turn, and gives the value back. Where the pass has all parts, each position of the value's
+    /// history is the pass's own.
+    pub fn close<R: Wait>(self, rt: &R, mut pass: Pass<S>) -> S
+        requires { IsIdle self.table.shared.table_id pass }
+        ensures { HasClosed S.stands_for S.book (view_of pass) result }
+    {
+        let Held { state } = self.take(rt, &mut pass);
+        let Pass {
+            who: _,
+            seen: _,
+            made: _,
+            parts: _,
+            mut seat,
+        } = pass;
+        none(self.table.shared.exchange(&mut seat, SLOT, Some(state)));
+        self.table.shared.store::<Close>(&mut seat, TURN, 1);
+        self.into_value(seat)
+    }
+
+    fn into_value(self, seat: Seat<Option<S>, View>) -> S
+        requires table { seat.table_id ≡ self.table.shared.table_id }
+        requires closing { seat.me.0.phase ≡ Closing }
+        ensures { HasClosed S.stands_for S.book seat.me.0 result }
+    {
+        let Turns { table } = self;
+        let mut closed = table.close_with(seat);
+        let state = only(closed.take(SLOT));
+        closed.free();
+        state
     }
 }
 
