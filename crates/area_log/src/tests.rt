@@ -9,7 +9,7 @@ ghost use Rattle.area_log.specs.Reading.{HoldsRecord};
 use super::*;
 use flash_core::{Flash, Geometry, RecordFlash};
 use kv_model::{Flags, Got, Key, KvError};
-use record_core::{Header, size_of_record};
+use record_core::{Header, broken_header, size_of_record};
 use std::alloc::Global;
 use std::process::Abort;
 use std::test::Fail;

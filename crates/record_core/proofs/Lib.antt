@@ -4,6 +4,7 @@ pub mod CrcByTable
 pub mod Existence
 pub mod HeaderLemmas
 pub mod LogLemmas
+pub mod LookupLemmas
 pub mod MountLemmas
 pub mod PayloadLemmas
 pub mod ReaderLemmas

@@ -2,6 +2,7 @@ pub mod Chance
 pub mod Cuts
 pub mod Header
 pub mod Log
+pub mod Lookup
 pub mod Mounts
 pub mod Reading
 pub mod Record

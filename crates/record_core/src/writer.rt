@@ -12,22 +12,16 @@ ghost use Rattle.record_core.specs.Record.{header_of, master_bytes, master_value
 ghost use Rattle.record_core.specs.Written.{CanWrite, IsArea, WritesRecord, WritesWithin};
 
 use crate::payload::fill_payload;
-use crate::{Header, crc, padded_size};
+use crate::{HEADER_SIZE, Header, crc, crc_of_front, padded_size};
 use byteorder::{ByteOrder, LittleEndian};
 use flash_core::{Flash, FlashFault};
 use kv_model::{Key, KvError};
 
 const ERASED: u8 = 0xFF;
 
-pub(crate) const HEADER_SIZE: u32 = 24;
-// How much of the header goes into the CRC.
-pub(crate) const FRONT_SIZE: usize = 20;
-
 pub(crate) const MASTER_KEY: &[u8] = b"TDBS";
 
 const MASTER_REVISION: u16 = 1;
-
-pub(crate) const CRC_START: u32 = 0xFFFF_FFFF;
 
 // The bytes, and behind them bytes 0xFF.
 fn fill_padded(units: &mut [u8], bytes: &[u8])
@@ -128,7 +122,7 @@ pub(crate) fn header_for(flags: u32, payload: &Payload) -> Header
         value_size: payload.value.len() as u32,
         crc: 0,
     };
-    let front = crc(CRC_START, &header.to_bytes()[..FRONT_SIZE]);
+    let front = crc_of_front(&header);
     Header {
         crc: crc(crc(front, payload.key), payload.value),
         ..header
