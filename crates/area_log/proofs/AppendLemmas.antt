@@ -9,7 +9,7 @@ use Rattle.flash_core.specs.TwoPrograms.{payload_put}
 use Rattle.flash_core.proofs.GeometryLaws.{prog_positive}
 use Rattle.flash_core.proofs.ImageLaws.{Torn-put, Torn-widen, length-put}
 use Rattle.flash_core.proofs.MomentLaws.{Torn-moment_within, weakened}
-use Rattle.kv_model.specs.History.{Write}
+use Rattle.kv_model.specs.Write.{Write}
 use Rattle.kv_model.specs.Keys.{is_key}
 use Rattle.record_core.specs.Header.{IsHeader}
 use Rattle.record_core.specs.Log.{IsRecordAt, extent, spelling_of}

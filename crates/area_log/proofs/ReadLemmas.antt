@@ -12,8 +12,8 @@ use Rattle.kv_model.specs.declared.call.Got.{Got}
 use Rattle.kv_model.specs.declared.error.KvError.{KvError}
 use Rattle.kv_model.specs.declared.error.KvError.TheVariants.{InvalidSize}
 use Rattle.kv_model.specs.Crc.{crc_of}
-use Rattle.kv_model.specs.History.{Write}
-use Rattle.kv_model.specs.Sizes.{up}
+use Rattle.kv_model.specs.Write.{Write}
+use Rattle.base_core.specs.Units.{up}
 use Rattle.record_core.specs.declared.header.Header.{Header}
 use Rattle.record_core.specs.Header.{header_front, header_bytes}
 use Rattle.record_core.specs.Log.{IsRecordAt, extent}

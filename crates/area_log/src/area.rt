@@ -6,7 +6,7 @@ ghost use Rattle.flash_core.specs.Moments.{EachMoment};
 ghost use Rattle.flash_core.specs.Sizes.{IsValid};
 ghost use Rattle.flash_core.specs.State.{IfTold};
 ghost use Rattle.flash_core.specs.Up.{IsMultipleOf};
-ghost use Rattle.kv_model.specs.Sizes.{record_size};
+ghost use Rattle.base_core.specs.Sizes.{record_size};
 ghost use Rattle.kv_model.specs.declared.error.KvError.TheVariants.{WriteFault};
 ghost use Rattle.record_core.specs.Header.{IsHeader};
 ghost use Rattle.record_core.specs.Log.{IsRecordAt};

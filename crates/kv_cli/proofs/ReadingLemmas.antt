@@ -10,8 +10,8 @@ use Rattle.kv_model.specs.FlaggedMap.{Stored}
 use Rattle.kv_model.specs.declared.call.Reply.{Reply}
 use Rattle.kv_model.specs.declared.call.Reply.TheVariants.{Refused, Value}
 use Rattle.flash_core.specs.State.{FlashState, IfTold}
-use Rattle.kv_model.specs.History.{Write}
-use Rattle.kv_model.specs.declared.bytes.NoMemory.{NoMemory}
+use Rattle.kv_model.specs.Write.{Write}
+use Rattle.base_core.specs.declared.no_memory.NoMemory.{NoMemory}
 use Rattle.kv_model.specs.declared.call.Got.{Got}
 use Rattle.kv_model.specs.declared.error.KvError.{KvError}
 use Rattle.kv_model.specs.declared.error.KvError.TheVariants.{InvalidSize, Memory, NotFound}

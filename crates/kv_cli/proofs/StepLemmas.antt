@@ -6,7 +6,7 @@ use Rattle.kv_model.specs.declared.error.KvError.TheVariants as error
 use Rattle.kv_model.specs.declared.call.Reply.TheVariants as reply
 use Rattle.kv_model.specs.Keys.{is_key}
 use Rattle.kv_model.specs.Flags.{is_write_once}
-use Rattle.kv_model.specs.Sizes.{record_size}
+use Rattle.base_core.specs.Sizes.{record_size}
 use Rattle.kv_cli.specs.LogStore.{flags_in, with_record, without_record}
 use Rattle.kv_model.specs.FlaggedMap.{Stored}
 use Rattle.kv_model.specs.StoreState.{StoreState}
@@ -16,7 +16,9 @@ use Rattle.kv_model.specs.declared.call.Call.TheVariants as call
 use Rattle.script_core.specs.declared.line.Act.TheVariants.{Do}
 use Rattle.kv_cli.specs.Inputs.{IsEarlyAct}
 use Rattle.kv_cli.specs.Replays.{IsFaultless}
-use Rattle.kv_model.specs.PlainStep.{Constants, Outcome, plain_step}
+use Rattle.kv_model.specs.Constants.{Constants}
+use Rattle.kv_model.specs.Rules.{Outcome}
+use Rattle.kv_model.specs.PlainStep.{plain_step}
 
 module _ (constants : Constants) (state : StoreState) (who : ℕ) (running : state.doubt ≡ None) (key : List ℕ) where
   pub get_bad_key : is_key key ≡ false → plain_step constants state who (Get key) ≡ record { state = state; reply = reply.Refused error.InvalidKey }

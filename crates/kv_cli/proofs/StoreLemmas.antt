@@ -13,11 +13,13 @@ use Rattle.flash_core.specs.Sizes.{IsValid, size_of}
 use Rattle.flash_core.specs.State.{FlashState}
 use Rattle.flash_core.specs.Up.{IsMultipleOf}
 use Rattle.kv_model.specs.Flags.{is_write_once, remove_flags}
-use Rattle.kv_model.specs.Sizes.{record_size}
+use Rattle.base_core.specs.Sizes.{record_size}
 use Rattle.kv_model.specs.declared.error.KvError.TheVariants.{WriteProtected, MediaFull}
-use Rattle.kv_model.specs.History.{Write}
+use Rattle.kv_model.specs.Write.{Write}
 use Rattle.kv_model.specs.Operations.{Operation}
-use Rattle.kv_model.specs.PlainStep.{Constants, Outcome, plain_step}
+use Rattle.kv_model.specs.Constants.{Constants}
+use Rattle.kv_model.specs.Rules.{Outcome}
+use Rattle.kv_model.specs.PlainStep.{plain_step}
 use Rattle.kv_model.specs.StoreState.{StoreState}
 use Rattle.kv_model.specs.Keys.{is_key, is_prefix}
 use Rattle.record_core.specs.Header.{IsHeader}

@@ -18,8 +18,9 @@ use Rattle.flash_core.specs.Moments.{EachMoment, FailedInside}
 use Rattle.flash_core.specs.Sizes.{IsValid, area_size, size_of}
 use Rattle.flash_core.specs.State.{DeviceCall, FlashState, IfTold, IsLawful}
 use Rattle.flash_core.specs.Up.{IsMultipleOf, up as device_up}
-use Rattle.kv_model.specs.Sizes.{up, master_size}
-use Rattle.kv_model.proofs.SizesLemmas.{up-ge, up-least, up-multiple}
+use Rattle.base_core.specs.Units.{up}
+use Rattle.base_core.specs.Sizes.{master_size}
+use Rattle.base_core.proofs.UnitLemmas.{up-ge, up-least, up-multiple}
 use Rattle.record_core.proofs.SizeLemmas.{up-most}
 use Rattle.record_core.specs.Record.{record_payload}
 use Rattle.record_core.proofs.RecordLemmas.{length-record_payload}

@@ -4,10 +4,10 @@ use Rattle.flash_core.specs.declared.geometry.Geometry.{Geometry}
 use Rattle.flash_core.specs.Images.{part}
 use Rattle.flash_core.specs.Sizes.{area_size}
 use Rattle.kv_model.specs.FlaggedMap.{FlaggedMap}
-use Rattle.kv_model.specs.History.{Write}
-use Rattle.kv_model.specs.Sizes.{master_size}
+use Rattle.kv_model.specs.Write.{Write, map_of}
+use Rattle.base_core.specs.Sizes.{master_size}
 use Rattle.record_core.specs.Record.{IsMaster, master_bytes}
-use Rattle.record_core.specs.Log.{AreAllRecords, extent, map_of, spelling_of}
+use Rattle.record_core.specs.Log.{AreAllRecords, extent, spelling_of}
 
 -- the version of the master record that begins the area at this place, or none where none does
 abbrev pub MasterAt : ℕ → List ℕ → ℕ → Option ℕ → Type 0

@@ -6,8 +6,9 @@ use Rattle.flash_core.specs.State.{FlashState}
 use Rattle.kv_model.specs.declared.error.KvError.{KvError}
 use Rattle.kv_model.specs.declared.error.KvError.TheVariants.{ReadFault}
 use Rattle.kv_model.specs.Crc.{crc_of}
-use Rattle.kv_model.specs.History.{Write}
-use Rattle.kv_model.specs.Sizes.{up, record_size}
+use Rattle.kv_model.specs.Write.{Write}
+use Rattle.base_core.specs.Units.{up}
+use Rattle.base_core.specs.Sizes.{record_size}
 use Rattle.record_core.specs.declared.header.Header.{Header}
 use Rattle.record_core.specs.Header.{IsValid, header_front}
 use Rattle.record_core.specs.Log.{IsRecordAt, extent}

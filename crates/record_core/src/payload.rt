@@ -1,7 +1,7 @@
 //! The payload of a record on its way to a device, a piece at a time.
 ghost use Rattle.std.specs.Prelude.{◌≡◌, ◌⊎◌, ◌+◌, ◌-◌, ◌<◌, ◌≤◌, ◌^◌, ℕ, length, slice_index};
 ghost use Rattle.flash_core.specs.Images.{part, put};
-ghost use Rattle.kv_model.specs.Sizes.{up};
+ghost use Rattle.base_core.specs.Units.{up};
 ghost use Rattle.record_core.specs.Record.{record_payload};
 
 const ERASED: u8 = 0xFF;

@@ -1,7 +1,8 @@
 //! How many bytes records take.
 ghost use Rattle.std.specs.Prelude.{◌≡◌, ◌+◌, ◌<◌, ◌≤◌, ◌^◌, IsTrue};
 ghost use Rattle.std.specs.Int.{is_power_of_two};
-ghost use Rattle.kv_model.specs.Sizes.{up, record_size};
+ghost use Rattle.base_core.specs.Units.{up};
+ghost use Rattle.base_core.specs.Sizes.{record_size};
 
 /// The least multiple of the program unit that is not less than `size`.
 #[tactic(auto, unfolding(kv_model::specs::Sizes::up))]

@@ -14,9 +14,10 @@ use Rattle.flash_core.proofs.GeometryLaws.{size-areas}
 use Rattle.flash_core.proofs.ImageLaws.{IsErased-put, IsErased-within, length-put, put-append, Torn-put, Torn-trans, Torn-widen}
 use Rattle.flash_core.proofs.KeptLaws.{told_before}
 use Rattle.flash_core.proofs.Units.{IsMultipleOf-mul}
-use Rattle.kv_model.specs.History.{Write}
+use Rattle.kv_model.specs.Write.{Write}
 use Rattle.kv_model.specs.Keys.{master_key}
-use Rattle.kv_model.specs.Sizes.{up, master_size}
+use Rattle.base_core.specs.Units.{up}
+use Rattle.base_core.specs.Sizes.{master_size}
 use Rattle.record_core.specs.Record.{master_value}
 use Rattle.tdb_mount.specs.Format.{first_erased}
 

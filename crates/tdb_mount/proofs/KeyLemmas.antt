@@ -15,9 +15,10 @@ use Rattle.std.proofs.lemmas.Slice.Eq.{bytes_eq-Decides}
 use mathlib.Core.Bool.{false≢true}
 use Rattle.flash_core.specs.Images.{part}
 use Rattle.kv_model.specs.Flags.{remove_flags}
-use Rattle.kv_model.specs.History.{Write}
+use Rattle.kv_model.specs.Write.{Write}
 use Rattle.kv_model.specs.Keys.{is_key}
-use Rattle.kv_model.specs.Sizes.{up, record_size}
+use Rattle.base_core.specs.Units.{up}
+use Rattle.base_core.specs.Sizes.{record_size}
 use Rattle.record_core.specs.declared.header.Header.{Header}
 use Rattle.record_core.specs.Header.{IsValid, HasFields, header_bytes, header_front}
 use Rattle.record_core.specs.Log.{IsRecordAt, extent}

@@ -3,8 +3,8 @@ use Rattle.std.proofs.lemmas.Option.{same_Some}
 use Rattle.flash_core.specs.declared.geometry.Geometry.{Geometry}
 use Rattle.flash_core.specs.Images.{IsErased}
 use Rattle.flash_core.proofs.ImageLaws.{IsErased-replicate}
-use Rattle.kv_model.specs.History.{Write}
-use Rattle.kv_model.specs.Sizes.{record_size}
+use Rattle.kv_model.specs.Write.{Write}
+use Rattle.base_core.specs.Sizes.{record_size}
 use Rattle.record_core.specs.Log.{IsRecordAt}
 use Rattle.area_log.proofs.tests.appended.Goals as goal
 

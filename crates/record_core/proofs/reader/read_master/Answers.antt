@@ -5,8 +5,9 @@ use Rattle.flash_core.specs.Images.{part}
 use Rattle.flash_core.specs.Sizes.{size_of}
 use Rattle.flash_core.proofs.GeometryLaws.{prog_positive}
 use Rattle.flash_core.proofs.KeptLaws.{OnlyReads-trans}
-use Rattle.kv_model.specs.Sizes.{up, master_size}
-use Rattle.kv_model.proofs.SizesLemmas.{up-ge}
+use Rattle.base_core.specs.Units.{up}
+use Rattle.base_core.specs.Sizes.{master_size}
+use Rattle.base_core.proofs.UnitLemmas.{up-ge}
 use Rattle.record_core.specs.Reading.{IsPadded}
 use Rattle.record_core.proofs.ReaderLemmas.{after_reads, header_of_stand, master_stands, none_is_not_some, padded_of_stand, payload_of_stand, refused}
 use Rattle.record_core.proofs.WriterLemmas.{master_inside}

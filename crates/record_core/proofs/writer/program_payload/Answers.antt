@@ -6,7 +6,7 @@ use Rattle.flash_core.specs.declared.geometry.Geometry.{Geometry}
 use Rattle.flash_core.specs.Calls.{CanProgram}
 use Rattle.flash_core.specs.Images.{part}
 use Rattle.flash_core.proofs.Units.{IsMultipleOf-add}
-use Rattle.kv_model.specs.Sizes.{up}
+use Rattle.base_core.specs.Units.{up}
 use Rattle.record_core.specs.Record.{record_payload}
 use Rattle.record_core.specs.Written.{CanWrite}
 use Rattle.record_core.proofs.WriterLemmas.{Pieces, all_failed, all_moments, all_more, next_piece, payload_long, payload_step, pieces_none, writes_all, writes_failed}

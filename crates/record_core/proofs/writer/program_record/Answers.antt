@@ -2,7 +2,7 @@ use Rattle.std.proofs.Common.{◌≡◌, ℕ, ◌+◌, List, length, refl, sym, 
 use Rattle.flash_core.specs.declared.geometry.Geometry.{Geometry}
 use Rattle.flash_core.specs.Calls.{CanProgram, Writes}
 use Rattle.flash_core.proofs.GeometryLaws.{prog_positive}
-use Rattle.kv_model.specs.Sizes.{up}
+use Rattle.base_core.specs.Units.{up}
 use Rattle.record_core.specs.Header.{header_bytes}
 use Rattle.record_core.specs.Record.{header_of, padded, record_header, record_payload}
 use Rattle.record_core.specs.Written.{CanWrite, WritesWithin}

@@ -1,4 +1,4 @@
-use Rattle.kv_model.specs.History.{Write}
+use Rattle.kv_model.specs.Write.{Write}
 use Rattle.area_log.proofs.AppendLemmas.{append_failed, append_moments, append_outside, append_stands}
 use Rattle.area_log.proofs.AreaLemmas.{range_fits}
 use Rattle.area_log.proofs.area.Area.append_record.Goals as goal
