@@ -4,7 +4,7 @@ use Rattle.std.specs.Prelude.{Result, Ok, Err, MatchResult, IfErr, IfOk, Some}
 use Rattle.std.proofs.lemmas.List.{drop-drop, drop-replicate}
 use Rattle.std.proofs.Math.Seq.{drop-append_seam}
 use Rattle.flash_core.specs.Calls.{OnlyReads}
-use Rattle.flash_core.proofs.KeptLaws.{Rose-since}
+use Rattle.base_core.proofs.CountLemmas.{Rose-since}
 use Rattle.flash_core.specs.Images.{part}
 use Rattle.flash_core.specs.State.{FlashState}
 use Rattle.flash_core.proofs.ImageLaws.{part-append}

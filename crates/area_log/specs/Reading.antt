@@ -30,7 +30,7 @@ filled room bytes = bytes ++ replicate (room - length bytes) 0
 pub record IsWithin (offset room : ℕ) (got : Got) : Type 0 where
   pub in_value : offset ≤ got.size
   pub read : got.read ≡ min (got.size - offset) room
-  pub size_most : got.size ≤ 65572
+  pub size_most : got.size ≤ 65592
 
 -- The flags and the size of the whole value were given, and at the front of the buffer its bytes from the offset on.
 pub record Gives (r : Write) (offset : ℕ) (buf : List ℕ) (got : Got) : Type 0 where

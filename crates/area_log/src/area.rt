@@ -1,11 +1,11 @@
 // An area, what is appended to it, and its tail.
 ghost use Rattle.std.specs.Prelude.{◌≡◌, ◌↔◌, ◌+◌, ◌-◌, ◌≤◌, length, IsTrue, IfOk, IfErr, OnOk};
-ghost use Rattle.flash_core.specs.Calls.{Rose};
+ghost use Rattle.base_core.specs.Counts.{Rose};
 ghost use Rattle.flash_core.specs.Images.{IsErased, Torn};
 ghost use Rattle.flash_core.specs.Moments.{EachMoment};
 ghost use Rattle.flash_core.specs.Sizes.{IsValid};
 ghost use Rattle.flash_core.specs.State.{IfTold};
-ghost use Rattle.flash_core.specs.Up.{IsMultipleOf};
+ghost use Rattle.base_core.specs.Units.{IsMultipleOf};
 ghost use Rattle.base_core.specs.Sizes.{record_size};
 ghost use Rattle.kv_model.specs.declared.error.KvError.TheVariants.{WriteFault};
 ghost use Rattle.record_core.specs.Header.{IsHeader};
@@ -33,7 +33,7 @@ impl Area {
 
     /// Programs a record from `at` on, a multiple of the program unit: the key and the value, and then the header. The
     /// answer is the place behind the record. `WriteFault` comes only where the count of write faults rose. `flags` is
-    /// 0, 1 (write-once) or 2^31 (a remove, whose value is empty); a value has at most 65,572 bytes; the record's range
+    /// 0, 1 (write-once) or 2^31 (a remove, whose value is empty); a value has at most 65,592 bytes; the record's range
     /// is erased and lies in the area. `work` has at least 64 bytes and at least a program unit.
     ///
     /// At each moment of the call, and after a fault, the image stands outside the record's range.

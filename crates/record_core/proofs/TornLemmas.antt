@@ -9,8 +9,8 @@ use Rattle.flash_core.specs.Images.{Torn, part}
 use Rattle.flash_core.specs.Sizes.{IsValid, area_size, size_of}
 use Rattle.flash_core.proofs.GeometryLaws.{prog_positive, size-areas}
 use Rattle.flash_core.proofs.ImageLaws.{get_or-part, part-Torn}
-use Rattle.kv_model.specs.History.{Write}
-use Rattle.kv_model.specs.Sizes.{master_size}
+use Rattle.kv_model.specs.Write.{Write}
+use Rattle.base_core.specs.Sizes.{master_size}
 use Rattle.record_core.specs.Chance.{AllStand, BreaksAt, FirstBreak, StandsInOne}
 use Rattle.record_core.specs.Cuts.{IsApart, IsApartFromMaster, IsApartFromRecords, IsHeaderCall, IsInArea, IsMasterCall, ShareMaster, active_of, base_of, version_of, with_version}
 use Rattle.record_core.specs.Log.{AreAllRecords, AreRecords, IsRecordAt, extent, spelling_of}

@@ -1,5 +1,6 @@
 pub mod Chance
 pub mod Cuts
+pub mod Endings
 pub mod Header
 pub mod Log
 pub mod Lookup

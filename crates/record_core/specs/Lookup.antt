@@ -1,14 +1,15 @@
 -- What a look-up at a place gives, whatever bytes stand there: each answer is that of the bytes that were read.
 use Rattle.std.specs.Prelude.{◌≡◌, ◌⊎◌, ℕ, ◌+◌, ◌-◌, ◌<◌, ◌≤◌, ◌^◌, List, length, slice_range, IsTrue, Result, MatchResult}
 use Rattle.std.specs.Int.{w32, from_le_bytes}
-use Rattle.flash_core.specs.Calls.{Rose}
+use Rattle.base_core.specs.Counts.{Rose}
 use Rattle.flash_core.specs.Images.{part}
 use Rattle.flash_core.specs.State.{FlashState, IfTold}
 use Rattle.kv_model.specs.declared.error.KvError.{KvError}
 use Rattle.kv_model.specs.declared.error.KvError.TheVariants.{Corrupt, ReadFault}
 use Rattle.kv_model.specs.Crc.{crc_from}
 use Rattle.kv_model.specs.Keys.{is_key}
-use Rattle.kv_model.specs.Sizes.{record_size, up}
+use Rattle.base_core.specs.Units.{up}
+use Rattle.base_core.specs.Sizes.{record_size}
 use Rattle.record_core.specs.declared.header.Header.{Header}
 use Rattle.record_core.specs.Header.{IsValid, header_bytes}
 
@@ -16,7 +17,7 @@ use Rattle.record_core.specs.Header.{IsValid, header_bytes}
 pub record IsReadFault (old new : FlashState) (e : KvError) : Type 0 where
   pub is : e ≡ ReadFault
   pub rose : Rose old.read_faults new.read_faults
-  pub unsteady : old.steady → ⊥
+  pub unsteady : IsTrue old.steady → ⊥
 
 -- The n bytes that were read from this place on: those of the image, where it is told.
 pub record IsSeen (s : FlashState) (place n : ℕ) (bytes : List ℕ) : Type 0 where

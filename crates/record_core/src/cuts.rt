@@ -5,7 +5,7 @@ ghost use Rattle.flash_core.specs.declared.geometry.Geometry.{Geometry};
 ghost use Rattle.flash_core.specs.Images.{Torn};
 ghost use Rattle.flash_core.specs.Sizes.{IsValid, size_of};
 ghost use Rattle.kv_model.specs.FlaggedMap.{FlaggedMap};
-ghost use Rattle.kv_model.specs.Sizes.{master_size};
+ghost use Rattle.base_core.specs.Sizes.{master_size};
 ghost use Rattle.record_core.specs.Chance.{FirstBreak, NoChance};
 ghost use Rattle.record_core.specs.Cuts.{IsApart, IsHeaderCall, IsInArea, IsMasterCall, active_of, base_of, with_version};
 ghost use Rattle.record_core.specs.Mounts.{Contents, Holds, Mounts};

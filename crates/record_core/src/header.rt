@@ -21,7 +21,7 @@ const REVISION: u16 = 1;
 
 const MAX_KEY_SIZE: u16 = 128;
 
-const MAX_VALUE_SIZE: u32 = 65_572;
+const MAX_VALUE_SIZE: u32 = 65_592;
 
 const WRITE_ONCE: u32 = 1;
 
@@ -43,7 +43,7 @@ pub struct Header {
 
 impl Header {
     /// Whether the sizes and flags are those that a header may have: a key of 1 to 128 bytes, a value of at most
-    /// 65,572, and none in a remove.
+    /// 65,592, and none in a remove.
     pub fn is_valid(&self) -> bool
         ensures { IsTrue result ↔ IsValid self.now }
     {

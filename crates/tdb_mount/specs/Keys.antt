@@ -40,7 +40,7 @@ fields_of bytes = record {
 unfoldable pub is_header : Header → Bool
 is_header header =
     (header.flags == 0 || header.flags == 1 || header.flags == remove_flags)
-    && nat_le 1 header.key_size && nat_le header.key_size 128 && nat_le header.value_size 65572
+    && nat_le 1 header.key_size && nat_le header.key_size 128 && nat_le header.value_size 65592
     && (not (header.flags == remove_flags) || header.value_size == 0)
 
 -- the key behind this header, where it is that of this place and its record would end at or before this end

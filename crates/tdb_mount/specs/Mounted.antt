@@ -2,7 +2,7 @@
 use Rattle.std.specs.Prelude.{◌≡◌, ◌↔◌, ℕ, ◌-◌, ◌≤◌, List, IsTrue, Some}
 use Rattle.std.specs.FinMap.{get}
 use Rattle.flash_core.specs.declared.geometry.Geometry.{Geometry}
-use Rattle.flash_core.specs.Calls.{Rose}
+use Rattle.base_core.specs.Counts.{Rose}
 use Rattle.flash_core.specs.Images.{IsErased}
 use Rattle.flash_core.specs.Sizes.{IsValid}
 use Rattle.flash_core.specs.State.{FlashState}

@@ -1,5 +1,5 @@
 use Rattle.std.proofs.Common.{refl}
-use Rattle.record_core.specs.Log.{map_of}
+use Rattle.kv_model.specs.Write.{map_of}
 use Rattle.record_core.proofs.Existence.{some_contents}
 use Rattle.record_core.proofs.cuts.every_image_mounts.Goals as goal
 
