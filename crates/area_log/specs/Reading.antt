@@ -1,5 +1,5 @@
 -- What calls answer that only read the device.
-use Rattle.std.specs.Prelude.{◌≡◌, ◌≢◌, ◌⊎◌, ℕ, ◌+◌, ◌-◌, ◌≤◌, ◌<◌, ◌^◌, ◌↔◌, min, List, ◌++◌, length, replicate, Option, OnOk, Result, MatchResult}
+use Rattle.std.specs.Prelude.{◌≡◌, ◌≢◌, ◌⊎◌, ℕ, ◌+◌, ◌-◌, ◌≤◌, ◌<◌, ◌^◌, ◌↔◌, min, List, ◌++◌, length, replicate, IsTrue, Option, OnOk, Result, MatchResult}
 use Rattle.flash_core.specs.declared.geometry.Geometry.{Geometry}
 use Rattle.flash_core.specs.Images.{part}
 use Rattle.flash_core.specs.State.{DeviceCall, FlashState}
@@ -97,7 +97,7 @@ pub record Visits {T E : Type 0} (old new : FlashState) (result : Result T E) : 
   pub torn : new.torn ≡ old.torn
   pub read_faults : old.read_faults ≤ new.read_faults
   pub write_faults : new.write_faults ≡ old.write_faults
-  pub steady : old.steady → OnOk result new.steady
-  pub sound : old.sound → new.sound
+  pub steady : IsTrue old.steady → OnOk result (IsTrue new.steady)
+  pub sound : IsTrue old.sound → IsTrue new.sound
   pub moment : new.moment ≡ old.moment
   pub told : (t : ℕ) (call : Option DeviceCall) (c : List ℕ) → new.left_since t call c ↔ old.left_since t call c

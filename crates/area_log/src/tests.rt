@@ -2,9 +2,7 @@
 ghost use Rattle.std.specs.Prelude.{◌≡◌, ◌≤◌, List, ℕ, map, length, IfOk, replicate};
 ghost use Rattle.flash_core.specs.RecordDevice.{IsMemoryOf};
 ghost use Rattle.flash_core.specs.Sizes.{IsValid, size_of};
-ghost use Rattle.flash_core.specs.State.{IfTold};
 ghost use Rattle.area_log.specs.Listing.{Found};
-ghost use Rattle.area_log.specs.Reading.{HoldsRecord};
 
 use super::*;
 use flash_core::{Flash, Geometry, RecordFlash};
@@ -193,8 +191,6 @@ fn appended(
     value: &[u8],
 ) -> Result<(u32, RecordFlash), Fail>
     ensures geometry { IfOk result (λ found. (⟦<RecordFlash as Flash>⟧.state found.1).geometry ≡ record { prog = prog; erase = 256; units_per_area = 1 }) }
-    ensures holds { IfOk result (λ found. IfTold (⟦<RecordFlash as Flash>⟧.state found.1).image (λ image.
-        HoldsRecord (record { prog = prog; erase = 256; units_per_area = 1 }) image AREA at)) }
 {
     assert!(rt; geometry_of(prog).is_valid());
     assert!(rt; prog <= 64);
