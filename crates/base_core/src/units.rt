@@ -7,7 +7,8 @@ ghost use Rattle.base_core.specs.Units.{up};
 pub fn round_up(unit: u32, len: u32) -> u32
     requires positive { 0 < unit }
     requires fits { len + unit ≤ 2 ^ 32 }
-    ensures { result ≡ up unit len }
+    ensures least { result ≡ up unit len }
+    ensures below { result < len + unit }
 {
     (len + (unit - 1)) / unit * unit
 }

@@ -7,9 +7,10 @@ use mathlib.Core.Bool.{false≢true}
 use Rattle.std.proofs.Math.Nat.{mul_assoc, zero-mod}
 use Rattle.std.proofs.lemmas.Nat.{mul-le}
 use Rattle.flash_core.specs.declared.geometry.Geometry.{Geometry}
-use Rattle.flash_core.specs.Sizes.{IsValid, area_size, master_size, size_of}
-use Rattle.flash_core.specs.Up.{IsMultipleOf, up}
-use Rattle.flash_core.proofs.Units.{IsMultipleOf-add, IsMultipleOf-mul, IsMultipleOf-trans, IsMultipleOf-up, unit_fits}
+use Rattle.flash_core.specs.Sizes.{IsValid, area_size, size_of}
+use Rattle.base_core.specs.Sizes.{master_size}
+use Rattle.base_core.specs.Units.{IsMultipleOf, up}
+use Rattle.base_core.proofs.UnitLemmas.{IsMultipleOf-add, IsMultipleOf-mul, IsMultipleOf-trans, unit_fits, up-multiple}
 
 power_positive : (n : ℕ) → IsTrue (is_power_of_two n) → 0 < n
 unfolding ones
@@ -39,7 +40,7 @@ module _ (g : Geometry) (valid : IsValid g) where
   size_whole_progs = IsMultipleOf-trans g.prog g.erase (size_of g) valid.erase_is_multiple size_whole_erases
 
   pub master_whole_progs : IsMultipleOf g.prog (master_size g.prog)
-  master_whole_progs = IsMultipleOf-add g.prog (up g.prog 24) (up g.prog 12) (IsMultipleOf-up g.prog 24) (IsMultipleOf-up g.prog 12)
+  master_whole_progs = IsMultipleOf-add g.prog (up g.prog 24) (up g.prog 12) (up-multiple g.prog 24) (up-multiple g.prog 12)
 
   pub erase_le_area : g.erase ≤ area_size g
   erase_le_area = omega (arith, mul-le 1 g.erase g.units_per_area g.erase valid.units_positive (omega arith))

@@ -1,16 +1,17 @@
 -- What runs of calls keep of a device.
-use Rattle.std.proofs.Common.{◌≡◌, ◌⊎◌, ℕ, ◌+◌, ◌*◌, ◌≤◌, List, length, inl, inr, ⊎_elim, refl, sym, ◌∙◌, ap, subst, arith}
+use Rattle.std.proofs.Common.{◌≡◌, ◌⊎◌, ℕ, ◌+◌, ◌*◌, ◌≤◌, List, length, refl, sym, ◌∙◌, ap, subst, arith}
 use Rattle.std.specs.Prelude.{Option, Some, None, Ok, is_some}
 use Rattle.std.proofs.lemmas.List.{length-replicate}
 use mathlib.Core.Bool.{false≢true}
 use Rattle.flash_core.specs.declared.geometry.Geometry.{Geometry}
-use Rattle.flash_core.specs.Calls.{CanErase, CanProgram, CanRead, Keeps, OnlyReads, Rose, Writes, erased_unit}
+use Rattle.flash_core.specs.Calls.{CanErase, CanProgram, CanRead, Keeps, OnlyReads, Writes, erased_unit}
 use Rattle.flash_core.specs.Images.{put, IsErased}
 use Rattle.flash_core.specs.Sizes.{size_of}
-use Rattle.flash_core.specs.State.{FlashState, IfTold, IsLawful}
-use Rattle.flash_core.specs.Up.{IsMultipleOf}
+use Rattle.flash_core.specs.State.{FlashState, IsLawful}
 use Rattle.flash_core.proofs.ImageLaws.{IsErased-Torn, IsErased-put, IsErased-within, Torn-put}
-use Rattle.flash_core.proofs.Units.{IsMultipleOf-mul, unit_fits}
+use Rattle.base_core.specs.Units.{IsMultipleOf}
+use Rattle.base_core.proofs.UnitLemmas.{IsMultipleOf-mul, unit_fits}
+use Rattle.std.specs.Option.{ForSome}
 
 pub Keeps-refl : (s : FlashState) → Keeps s s
 Keeps-refl s = record {
@@ -105,7 +106,7 @@ CanErase-kept {old} {new} {place} kept can = record {
 }
 
 -- one range more of the same device, where it is still erased
-pub CanProgram-kept : {old new : FlashState} {place n : ℕ} → Keeps old new → IfTold new.image (λ image. IsErased image place n) → CanProgram old place n → CanProgram new place n
+pub CanProgram-kept : {old new : FlashState} {place n : ℕ} → Keeps old new → ForSome new.image (λ image. IsErased image place n) → CanProgram old place n → CanProgram new place n
 CanProgram-kept {old} {new} {place} {n} kept erased can = record {
   place_aligned = subst (λ (g : Geometry). IsMultipleOf g.prog place) (sym kept.geometry) can.place_aligned;
   length_aligned = subst (λ (g : Geometry). IsMultipleOf g.prog n) (sym kept.geometry) can.length_aligned;
@@ -120,7 +121,7 @@ pub CanErase-fits : {s : FlashState} {place : ℕ} → CanErase s place → plac
 CanErase-fits {s} {place} can = unit_fits s.geometry.erase place (size_of s.geometry) can.place_aligned (IsMultipleOf-mul s.geometry.erase (2 * s.geometry.units_per_area)) can.inside
 
 -- whole units within an erased range of the image
-pub CanProgram-within : (s : FlashState) (place n q m : ℕ) → IfTold s.image (λ image. IsErased image place n) → place + n ≤ size_of s.geometry → place ≤ q → q + m ≤ place + n
+pub CanProgram-within : (s : FlashState) (place n q m : ℕ) → ForSome s.image (λ image. IsErased image place n) → place + n ≤ size_of s.geometry → place ≤ q → q + m ≤ place + n
     → IsMultipleOf s.geometry.prog q → IsMultipleOf s.geometry.prog m → s.geometry.prog ≤ m → m ≤ s.geometry.erase → CanProgram s q m
 CanProgram-within s place n q m erased inside from to place_aligned length_aligned at_least at_most = record {
   place_aligned = place_aligned;
@@ -139,7 +140,7 @@ some_is x y same = cc
 
 -- what was erased stays so behind an Ok call on another range
 pub erased_after : {T : Type 0} {old new : FlashState} {place : ℕ} {bytes : List ℕ} {x : T} → (q m : ℕ) → IsLawful old → Writes old new place bytes (Ok x) → place + length bytes ≤ size_of old.geometry → (q + m ≤ place) ⊎ (place + length bytes ≤ q)
-    → IfTold old.image (λ image. IsErased image q m) → IfTold new.image (λ image. IsErased image q m)
+    → ForSome old.image (λ image. IsErased image q m) → ForSome new.image (λ image. IsErased image q m)
 erased_after {T} {old} {new} {place} {bytes} q m lawful wrote inside apart erased image told =
     let was = told_before wrote.kept told in
     let fits : place + length bytes ≤ length was.0 = omega (arith, inside, lawful.sized was.0 was.1) in
@@ -153,16 +154,13 @@ pub CanProgram-after : {T : Type 0} {old new : FlashState} {place : ℕ} {bytes 
 CanProgram-after q m lawful wrote inside apart can = CanProgram-kept wrote.kept (erased_after q m lawful wrote inside apart can.erased) can
 
 -- an erase leaves an erased unit
-pub erased_by : {T : Type 0} {old new : FlashState} {place : ℕ} {x : T} → IsLawful old → CanErase old place → Writes old new place (erased_unit old) (Ok x) → IfTold new.image (λ image. IsErased image place old.geometry.erase)
+pub erased_by : {T : Type 0} {old new : FlashState} {place : ℕ} {x : T} → IsLawful old → CanErase old place → Writes old new place (erased_unit old) (Ok x) → ForSome new.image (λ image. IsErased image place old.geometry.erase)
 erased_by {T} {old} {new} {place} lawful can wrote image told =
     let was = told_before wrote.kept told in
     let fits : place + old.geometry.erase ≤ length was.0 = omega (arith, CanErase-fits can, lawful.sized was.0 was.1) in
     let is : put was.0 place (erased_unit old) ≡ image = some_is (put was.0 place (erased_unit old)) image (sym (wrote.written was.0 was.1) ∙ told) in
     subst (λ (l : List ℕ). IsErased l place old.geometry.erase) is (IsErased-put was.0 place old.geometry.erase fits)
 
--- a count that rose has risen since earlier and until later
-pub Rose-since : {early before now : ℕ} → early ≤ before → Rose before now → Rose early now
-Rose-since le rose = ⊎_elim (λ more. inl (omega (arith, le, more))) (λ end. inr end) rose
-
-pub Rose-until : {before now late : ℕ} → Rose before now → now ≤ late → Rose before late
-Rose-until rose le = ⊎_elim (λ more. inl (omega (arith, le, more))) (λ end. inr (omega (arith, le, end))) rose
+-- a device that told its image tells it
+pub told_after : {old new : FlashState} {image : List ℕ} → Keeps old new → old.image ≡ Some image → (now : List ℕ) × (new.image ≡ Some now)
+told_after {old} {new} {image} kept told = told_from new.image old.image (sym kept.tells_image) image told

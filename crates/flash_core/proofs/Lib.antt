@@ -1,7 +1,8 @@
+pub mod EraseLaws
 pub mod GeometryLaws
 pub mod HeaderLast
 pub mod ImageLaws
 pub mod KeptLaws
 pub mod MomentLaws
 pub mod Powers
-pub mod Units
+pub mod RunLaws

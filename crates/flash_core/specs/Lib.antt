@@ -1,8 +1,11 @@
+pub use Rattle.base_core.specs.Counts
+pub use Rattle.base_core.specs.Units
 pub mod Calls
+pub mod Erases
 pub mod Images
 pub mod Moments
 pub mod RecordDevice
+pub mod Runs
 pub mod Sizes
 pub mod State
 pub mod TwoPrograms
-pub mod Up

@@ -1,5 +1,5 @@
 -- A device in memory that keeps no writes.
-use Rattle.std.specs.Prelude.{◌≡◌, ℕ, List, [], length, false, Some, None}
+use Rattle.std.specs.Prelude.{◌≡◌, ℕ, List, [], length, true, false, IsTrue, Some, None}
 use Rattle.std.proofs.Common.{◌∙◌, ap, sym}
 use mathlib.Core.Bool.{false≢true}
 use Rattle.flash_core.specs.declared.geometry.Geometry.{Geometry}
@@ -19,8 +19,8 @@ memory_state geometry image = record {
   tells_torn = false;
   torn = None;
   label = [];
-  steady = Unit {0};
-  sound = Unit {0};
+  steady = true;
+  sound = true;
 }
 
 -- A device in memory with this image, which has no label, and of which no call fails.
@@ -30,7 +30,7 @@ pub record IsMemoryOf (s : FlashState) (geometry : Geometry) (image : List ℕ) 
   pub label_is : s.label ≡ []
   pub tells_no_moments : s.tells_moments ≡ false
   pub tells_no_torn : s.tells_torn ≡ false
-  pub sound : s.sound
+  pub sound : IsTrue s.sound
 
 some_is : {X : Type 0} (x y : X) → Some x ≡ Some y → x ≡ y
 some_is x y same = cc

@@ -1,12 +1,9 @@
 -- Sizes on a device, in bytes.
-use Rattle.std.specs.Prelude.{ℕ, ◌+◌, ◌*◌, ◌≤◌, IsTrue}
+use Rattle.std.specs.Prelude.{ℕ, ◌*◌, ◌≤◌, IsTrue}
 use Rattle.std.specs.Int.{is_power_of_two}
+use Rattle.base_core.specs.Sizes.{master_size}
+use Rattle.base_core.specs.Units.{IsMultipleOf, up}
 use Rattle.flash_core.specs.declared.geometry.Geometry.{Geometry}
-use Rattle.flash_core.specs.Up.{IsMultipleOf, up}
-
--- a master record: a header of 24 bytes and a payload of 12
-abbrev pub master_size : ℕ → ℕ
-master_size prog = up prog 24 + up prog 12
 
 abbrev pub area_size : Geometry → ℕ
 area_size g = g.units_per_area * g.erase

@@ -1,5 +1,6 @@
 -- What contracts see of a device.
-use Rattle.std.specs.Prelude.{◌≡◌, ℕ, ◌≤◌, List, length, Bool, IsTrue, Option, Some}
+use Rattle.std.specs.Prelude.{◌≡◌, ℕ, ◌≤◌, List, length, Bool, IsTrue, Option, Result, OnOk}
+use Rattle.std.specs.Option.{ForSome}
 use Rattle.flash_core.specs.declared.geometry.Geometry.{Geometry}
 use Rattle.flash_core.specs.Images.{part, put}
 use Rattle.flash_core.specs.Sizes.{size_of}
@@ -39,20 +40,24 @@ pub record FlashState : Type 1 where
   pub torn : Option DeviceCall
   pub label : List ℕ
   -- no read fails
-  pub steady : Type 0
+  pub steady : Bool
   -- no call fails
-  pub sound : Type 0
+  pub sound : Bool
 
 -- P of the image, where it is told
 abbrev pub IfTold : Option (List ℕ) → (List ℕ → Type 0) → Type 0
-IfTold told P = (image : List ℕ) → told ≡ Some image → P image
+IfTold told P = ForSome told P
+
+-- P of the image, where it is told and the result is Ok
+abbrev pub OnImage : {T E : Type 0} → Option (List ℕ) → Result T E → (List ℕ → Type 0) → Type 0
+OnImage told result P = ForSome told (λ image. OnOk result (P image))
 
 -- What holds of each device.
 pub record IsLawful (s : FlashState) : Type 0 where
-  pub sized : IfTold s.image (λ image. length image ≡ size_of s.geometry)
-  pub sound_is_steady : s.sound → s.steady
+  pub sized : ForSome s.image (λ image. length image ≡ size_of s.geometry)
+  pub sound_is_steady : IsTrue s.sound → IsTrue s.steady
   -- the moments since a time are among those since an earlier one
   pub earlier : (t u : ℕ) (call : Option DeviceCall) (c : List ℕ) → t ≤ u → s.left_since u call c → s.left_since t call c
   -- a power cut now leaves the image, and that is told where moments are told
-  pub only_now : IfTold s.image (λ image. (call : Option DeviceCall) (c : List ℕ) → s.left_since s.moment call c → c ≡ image)
-  pub tells_now : IsTrue s.tells_moments → IfTold s.image (λ image. (call : Option DeviceCall) × s.left_since s.moment call image)
+  pub only_now : ForSome s.image (λ image. (call : Option DeviceCall) (c : List ℕ) → s.left_since s.moment call c → c ≡ image)
+  pub tells_now : IsTrue s.tells_moments → ForSome s.image (λ image. (call : Option DeviceCall) × s.left_since s.moment call image)

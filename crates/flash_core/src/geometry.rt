@@ -1,6 +1,7 @@
 // The sizes of a device.
-ghost use Rattle.std.specs.Prelude.{◌≡◌, ◌<◌, ◌≤◌, ◌+◌, ◌^◌, ◌↔◌, IsTrue};
-ghost use Rattle.flash_core.specs.Up.{up};
+ghost use Rattle.std.specs.Prelude.{◌≡◌, ◌↔◌, IsTrue};
+
+use base_core::round_up;
 
 const MAX_PROG: u32 = 4_096;
 
@@ -49,13 +50,4 @@ impl Geometry {
     {
         2 * self.units_per_area * self.erase
     }
-}
-
-/// The least multiple of the program unit that is not less than `len`.
-pub fn round_up(prog: u32, len: u32) -> u32
-    requires positive { 0 < prog }
-    requires fits { len + prog ≤ 2 ^ 32 }
-    ensures { result ≡ up prog len }
-{
-    (len + (prog - 1)) / prog * prog
 }

@@ -5,14 +5,17 @@
 //! the least that is erased at once, to 0xFF. The device has two areas of equal size, area 0 first.
 #![tactic(auto)]
 
+mod erases;
 mod flash;
 mod geometry;
 mod record_flash;
 mod two_programs;
 
+pub use base_core::NoMemory;
+pub use erases::erase_units;
 pub use flash::{Flash, FlashFault};
-pub use geometry::{Geometry, round_up};
-pub use record_flash::{NoMemory, RecordFlash};
+pub use geometry::Geometry;
+pub use record_flash::RecordFlash;
 pub use two_programs::program_payload_then_header;
 
 #[cfg(test)]

@@ -4,11 +4,8 @@ ghost use Rattle.flash_core.specs.Images.{put};
 ghost use Rattle.flash_core.specs.Sizes.{IsValid, size_of};
 
 use crate::{Flash, FlashFault, Geometry};
+use base_core::NoMemory;
 use std::alloc::Global;
-
-/// There was no memory for the device.
-#[derive(Clone, Copy, Debug, PartialEq, Eq)]
-pub struct NoMemory;
 
 /// A device in memory that keeps no writes: it tells its image and no moments, and no call of it fails.
 #[derive(Drop)]

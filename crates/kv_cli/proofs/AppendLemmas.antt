@@ -11,10 +11,10 @@ use Rattle.flash_core.specs.Calls.{Keeps}
 use Rattle.flash_core.specs.Images.{part, IsErased, Torn}
 use Rattle.flash_core.specs.Sizes.{IsValid, area_size, size_of}
 use Rattle.flash_core.specs.State.{FlashState}
-use Rattle.flash_core.specs.Up.{IsMultipleOf}
+use Rattle.base_core.specs.Units.{IsMultipleOf}
 use Rattle.flash_core.proofs.ImageLaws.{IsErased-Torn, IsErased-within, part-Torn}
 use Rattle.flash_core.proofs.GeometryLaws.{prog_positive, size-areas}
-use Rattle.flash_core.proofs.Units.{IsMultipleOf-add, IsMultipleOf-up}
+use Rattle.base_core.proofs.UnitLemmas.{IsMultipleOf-add, IsMultipleOf-up}
 use Rattle.kv_model.specs.Crc.{key_hash}
 use Rattle.kv_model.specs.FlaggedMap.{Stored, FlaggedMap}
 use Rattle.kv_model.specs.Flags.{remove_flags}

@@ -76,7 +76,7 @@ pub never_below_none : (n : ℕ) → nat_lt n 0 ≡ true → ⊥
 never_below_none n is = grind (arith, nat_tests)
 
 -- all of a value is a part of it
-pub all_of : (value : List ℕ) → length value ≤ 65572 → take 4294967295 (drop 0 value) ≡ value
+pub all_of : (value : List ℕ) → length value ≤ 65592 → take 4294967295 (drop 0 value) ≡ value
 all_of value most = take_all 4294967295 value (omega arith)
 
 -- the reply of a call that was answered

@@ -97,7 +97,7 @@ module _ (g : Geometry) (valid : IsValid g) (image : List ℕ) (area : Area) (en
   kept_at key (Some place) stored is = (place, is)
 
   -- a value that the records give is that of one of them
-  pub value_most : (key : List ℕ) (stored : Stored) → map.get (map_of records) key ≡ Some stored → length stored.bytes ≤ 65572
+  pub value_most : (key : List ℕ) (stored : Stored) → map.get (map_of records) key ≡ Some stored → length stored.bytes ≤ 65592
   value_most key stored is =
       (kept_at key (map.get places key) stored (subst (IsLinked g.prog image end key (map.get places key)) is (linked key))).1.stands.valid_header.value_most
 

@@ -6,7 +6,7 @@ use Rattle.flash_core.specs.declared.geometry.Geometry.{Geometry}
 use Rattle.flash_core.specs.Images.{IsErased}
 use Rattle.flash_core.specs.Sizes.{area_size}
 use Rattle.flash_core.specs.State.{FlashState}
-use Rattle.flash_core.specs.Up.{IsMultipleOf}
+use Rattle.base_core.specs.Units.{IsMultipleOf}
 use Rattle.kv_model.specs.FlaggedMap.{Stored}
 use Rattle.base_core.specs.Sizes.{record_size}
 use Rattle.kv_model.specs.Sizes.{room_of}

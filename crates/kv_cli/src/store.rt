@@ -36,7 +36,7 @@ use std::marker::Brand;
 use std::sync::ledger::Blank;
 use tdb_mount::{area_at, hash_of, mount_parts, place_of};
 
-const MAX_VALUE: usize = 65_572;
+const MAX_VALUE: usize = 65_592;
 
 // All bits of a key's CRC are its hash.
 const HASH_BITS: u8 = 32;
@@ -310,7 +310,7 @@ impl<F: Flash> LogStore<F> {
     fn check_room(&mut self, key: &Key, place: Place, size: u32) -> Result<(), KvError>
         requires ready { IsReady (F.state self.old.flash) self.old.area self.old.end self.old.table.entries self.old.work.items }
         requires placed { IsPlaced (F.state self.old.flash) self.old.area self.old.table.entries key.now place }
-        requires small { size ≤ 65572 }
+        requires small { size ≤ 65592 }
         ensures ready { IsReady (F.state self.new.flash) self.new.area self.new.end self.new.table.entries self.new.work.items }
         ensures reads { OnlyReads (F.state self.old.flash) (F.state self.new.flash) }
         ensures area { self.new.area ≡ self.old.area }

@@ -10,7 +10,6 @@ use mathlib.Core.Bool.{false≢true}
 use Rattle.flash_core.specs.declared.geometry.Geometry.{Geometry}
 use Rattle.flash_core.specs.Images.{part}
 use Rattle.flash_core.specs.Sizes.{IsValid, area_size}
-use Rattle.flash_core.specs.Up as flash
 use Rattle.flash_core.proofs.GeometryLaws.{prog_positive}
 use Rattle.kv_model.specs.Flags.{remove_flags}
 use Rattle.kv_model.specs.Write.{Write}
@@ -86,7 +85,7 @@ known_header flags key_size value_size =
     (known_both (known_one (cases_eq flags 0) (known_one (cases_eq flags 1) (cases_eq flags remove_flags)))
     (known_both (known_le 1 key_size)
     (known_both (known_le key_size 128)
-    (known_both (known_le value_size 65572)
+    (known_both (known_le value_size 65592)
     (known_if (cases_eq flags remove_flags) (cases_eq value_size 0))))))
 
 -- ---- masters
@@ -206,17 +205,13 @@ module _ (prog : ℕ) (positive : 1 ≤ prog) (image : List ℕ) where
 
 -- ---- a whole image
 
-up_same : (prog x : ℕ) → up prog x ≡ flash.up prog x
-unfolding up
-up_same prog x = refl
-
 module _ (g : Geometry) (valid : IsValid g) where
   positive : 1 ≤ g.prog
   positive = prog_positive g valid
 
   -- a master record fits in an area
   pub master_within : master_size g.prog ≤ area_size g
-  master_within = omega (arith, valid.master_fits, up_same g.prog 24, up_same g.prog 12)
+  master_within = valid.master_fits
 
   active_records : (image : List ℕ) (active : Option ℕ) → (end : ℕ) × (records : List Write) × ActiveRecords g image active end records
   active_records image None = (0, [], (refl, refl))

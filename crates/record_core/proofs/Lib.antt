@@ -1,9 +1,11 @@
 pub mod AnswerLemmas
 pub mod ChanceLemmas
 pub mod CrcByTable
+pub mod EndingLemmas
 pub mod Existence
 pub mod HeaderLemmas
 pub mod LogLemmas
+pub mod LookupLemmas
 pub mod MountLemmas
 pub mod PayloadLemmas
 pub mod ReaderLemmas

@@ -8,7 +8,8 @@ use Rattle.flash_core.specs.Calls.{OnlyReads}
 use Rattle.flash_core.specs.Images.{part}
 use Rattle.flash_core.specs.State.{FlashState}
 use Rattle.flash_core.proofs.ImageLaws.{length-part, part-append}
-use Rattle.flash_core.proofs.KeptLaws.{OnlyReads-trans, Rose-since}
+use Rattle.base_core.proofs.CountLemmas.{Rose-since}
+use Rattle.flash_core.proofs.KeptLaws.{OnlyReads-trans}
 use Rattle.kv_model.specs.Crc.{crc_from, crc_of}
 use Rattle.kv_model.specs.declared.error.KvError.{KvError}
 use Rattle.kv_model.specs.Write.{Write}

@@ -3,8 +3,8 @@ use Rattle.std.specs.Prelude.{◌≡◌, ◌⊎◌, ℕ, zero, suc, ◌+◌, ◌
 use Rattle.flash_core.specs.declared.geometry.Geometry.{Geometry}
 use Rattle.flash_core.specs.Images.{Torn, part}
 use Rattle.flash_core.specs.Sizes.{area_size}
-use Rattle.base_core.specs.Sizes.{master_size}
 use Rattle.base_core.specs.Units.{up}
+use Rattle.base_core.specs.Sizes.{master_size}
 use Rattle.record_core.specs.Mounts.{Contents, Holds, active_area}
 use Rattle.record_core.specs.Record.{IsMaster}
 

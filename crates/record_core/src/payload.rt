@@ -30,7 +30,7 @@ fn overlay(units: &mut [u8], from: usize, start: usize, bytes: &[u8])
 
 /// Fills `units` with the bytes of the payload of this key and value from `from` on.
 pub(crate) fn fill_payload(units: &mut [u8], from: usize, key: &[u8], value: &[u8])
-    requires sizes { length key.now + length value.now ≤ 65700 }
+    requires sizes { length key.now + length value.now ≤ 65720 }
     requires limits { from + length units.old < 2 ^ 31 }
     ensures { (prog : ℕ) → 1 ≤ prog → from + length units.old ≤ up prog (length key.now + length value.now)
         → units.new ≡ part (record_payload prog key.now value.now) from (length units.old) }

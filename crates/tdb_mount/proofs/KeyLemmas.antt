@@ -102,7 +102,7 @@ pub is_header-valid : (header : Header) → is_header header ≡ true → IsVali
 unfolding is_header
 is_header-valid header is =
     let e = both_of _ (not (header.flags == remove_flags) || header.value_size == 0) is in
-    let d = both_of _ (nat_le header.value_size 65572) e.0 in
+    let d = both_of _ (nat_le header.value_size 65592) e.0 in
     let c = both_of _ (nat_le header.key_size 128) d.0 in
     let b = both_of _ (nat_le 1 header.key_size) c.0 in
     record {
@@ -112,7 +112,7 @@ is_header-valid header is =
           (some_of (header.flags == 0 || header.flags == 1) (header.flags == remove_flags) b.0);
       key_least = leb-true 1 header.key_size b.1;
       key_most = leb-true header.key_size 128 c.1;
-      value_most = leb-true header.value_size 65572 d.1;
+      value_most = leb-true header.value_size 65592 d.1;
       remove_is_empty = λ removes. eqb-true header.value_size 0
           (ap (λ (x : Bool). not x || header.value_size == 0) (sym (eq-eqb header.flags remove_flags removes)) ∙ e.1);
     }
@@ -133,7 +133,7 @@ valid-is_header header valid =
     valid.kind in
     let least = le-leb 1 header.key_size valid.key_least in
     let most = le-leb header.key_size 128 valid.key_most in
-    let value = le-leb header.value_size 65572 valid.value_most in
+    let value = le-leb header.value_size 65592 valid.value_most in
     let empty = empty_if (header.flags == remove_flags) header refl valid.remove_is_empty in
     λ i. kind i && least i && most i && value i && empty i
 
@@ -144,6 +144,14 @@ if_some true x y is = (refl, cc)
 if_some false x y is = absurd (cc)
 
 -- a header that a place spells, with its CRC in four bytes
+-- the same header with the CRC that its bytes spell
+abbrev pub low_crc : Header → Header
+low_crc header = record { flags = header.flags; key_size = header.key_size; value_size = header.value_size; crc = header.crc % 2 ^ 32 }
+
+pub low_spelling : (header : Header) → header_bytes (low_crc header) ≡ header_bytes header
+unfolding header_bytes
+low_spelling header = ap (λ (crc : List ℕ). header_front header.flags header.key_size header.value_size ++ crc) (low_bytes header.crc)
+
 module _ (prog : ℕ) (image : List ℕ) (end place : ℕ) where
   spelled_of : (header : Header) (key : List ℕ) → key_behind prog image end place header ≡ Some key → SpellsKey prog image end place key
   unfolding key_behind
@@ -164,13 +172,6 @@ module _ (prog : ℕ) (image : List ℕ) (end place : ℕ) where
 
   pub key_spells : (key : List ℕ) → key_spelled prog image end place ≡ Some key → SpellsKey prog image end place key
   key_spells key found = spelled_of (fields_of (part image place 24)) key found
-
-  abbrev low_crc : Header → Header
-  low_crc header = record { flags = header.flags; key_size = header.key_size; value_size = header.value_size; crc = header.crc % 2 ^ 32 }
-
-  low_spelling : (header : Header) → header_bytes (low_crc header) ≡ header_bytes header
-  unfolding header_bytes
-  low_spelling header = ap (λ (crc : List ℕ). header_front header.flags header.key_size header.value_size ++ crc) (low_bytes header.crc)
 
   module _ (key : List ℕ) (spells : SpellsKey prog image end place key) where
     abbrev found : Header

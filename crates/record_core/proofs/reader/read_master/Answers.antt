@@ -1,4 +1,4 @@
-use Rattle.std.proofs.Common.{◌≡◌, ℕ, ◌+◌, sym, ◌∙◌, ap, subst, arith}
+use Rattle.std.proofs.Common.{◌≡◌, ℕ, ◌+◌, refl, sym, ◌∙◌, ap, subst, arith}
 use mathlib.Core.Bool.{false≢true}
 use Rattle.flash_core.specs.declared.geometry.Geometry.{Geometry}
 use Rattle.flash_core.specs.Images.{part}
@@ -70,3 +70,22 @@ returns-else-branch-clause-found g c image told version is =
     let prog = ap (λ (x : Geometry). x.prog) (second.geometry ∙ first.geometry) in
     let pad = subst (λ (p : ℕ). IsPadded p image c.args.area 12) (sym prog) (padded_of_stand s.geometry.prog positive image c.args.area version is) in
     false≢true (sym c.if-branch.false ∙ (c.in_ok-is_padded.ensures.padded image (second.image ∙ first.image ∙ told)).1 pad)
+
+pub read_part-requires : goal.read_part-requires
+read_part-requires g c =
+    let s = g.F.Flash.state c.args.flash.now in
+    omega (arith, master_inside s.geometry c.args.area c.requires.valid c.requires.area, up-ge s.geometry.prog 24 (prog_positive s.geometry c.requires.valid))
+
+pub returns-then-branch-clause-reads : goal.returns-then-branch-clause-reads
+returns-then-branch-clause-reads g c = record {
+  kept = OnlyReads-trans c.in_ok-read_part.ensures.reads.kept (OnlyReads-trans c.in_ok-read_part-2.ensures.reads.kept c.in_ok-is_padded.ensures.reads.kept);
+  steady = λ steady. refl;
+  cause = tt;
+}
+
+pub returns-else-branch-clause-reads : goal.returns-else-branch-clause-reads
+returns-else-branch-clause-reads g c = record {
+  kept = OnlyReads-trans c.in_ok-read_part.ensures.reads.kept (OnlyReads-trans c.in_ok-read_part-2.ensures.reads.kept c.in_ok-is_padded.ensures.reads.kept);
+  steady = λ steady. refl;
+  cause = tt;
+}

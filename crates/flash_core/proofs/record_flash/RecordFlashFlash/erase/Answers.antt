@@ -1,5 +1,5 @@
 use Rattle.std.proofs.Common.{◌*◌, arith}
-use Rattle.flash_core.proofs.Units.{IsMultipleOf-mul, unit_fits}
+use Rattle.base_core.proofs.UnitLemmas.{IsMultipleOf-mul, unit_fits}
 use Rattle.flash_core.specs.Sizes.{size_of}
 use Rattle.flash_core.proofs.record_flash.RecordFlashFlash.erase.Goals as goal
 
