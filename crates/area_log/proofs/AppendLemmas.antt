@@ -1,80 +1,69 @@
 -- What an append leaves.
-use Rattle.std.proofs.Common.{◌≡◌, ℕ, ◌+◌, ◌≤◌, List, length, sym, ◌∙◌, subst, arith, ⊎_elim}
-use Rattle.std.specs.Prelude.{Option, Some, Result, Ok, Err, IsTrue}
-use Rattle.flash_core.specs.Images.{put, Torn}
-use Rattle.flash_core.specs.Moments.{EachMoment}
+use Rattle.std.proofs.Common.{◌≡◌, ℕ, ◌+◌, ◌≤◌, List, length, take, sym, ◌∙◌, subst, arith, ⊎_elim}
+use Rattle.std.specs.Prelude.{Option, Some, None}
+use Rattle.std.specs.Option.{ForSome}
+use Rattle.std.proofs.lemmas.List.{length-take-le}
+use Rattle.flash_core.specs.Calls.{IsMomentWithin}
+use Rattle.flash_core.specs.Images.{part, put, Torn}
+use Rattle.flash_core.specs.Moments.{Within}
+use Rattle.flash_core.specs.Runs.{Ending, RunsBy}
 use Rattle.flash_core.specs.Sizes.{IsValid, size_of}
-use Rattle.flash_core.specs.State.{DeviceCall, FlashState, IfTold, IsLawful}
+use Rattle.flash_core.specs.State.{DeviceCall, FlashState, IsLawful}
 use Rattle.flash_core.specs.TwoPrograms.{payload_put}
 use Rattle.flash_core.proofs.GeometryLaws.{prog_positive}
-use Rattle.flash_core.proofs.ImageLaws.{Torn-put, Torn-widen, length-put}
-use Rattle.flash_core.proofs.MomentLaws.{Torn-moment_within, weakened}
-use Rattle.kv_model.specs.History.{Write}
-use Rattle.kv_model.specs.Keys.{is_key}
-use Rattle.record_core.specs.Header.{IsHeader}
-use Rattle.record_core.specs.Log.{IsRecordAt, extent, spelling_of}
-use Rattle.record_core.specs.Record.{record_bytes, record_header, record_payload}
-use Rattle.record_core.specs.Written.{IsPayloadFirst, Within, WritesRecord}
-use Rattle.record_core.proofs.LogLemmas.{IsRecordAt-put}
-use Rattle.record_core.proofs.RecordLemmas.{length-record_bytes, length-record_header, length-record_payload}
+use Rattle.flash_core.proofs.ImageLaws.{Torn-put, Torn-widen, length-part, length-put}
+use Rattle.flash_core.proofs.MomentLaws.{Within-moment_within, Within-widen}
+use Rattle.flash_core.proofs.RunLaws.{runs_weakened}
+use Rattle.kv_model.specs.Write.{Write}
+use Rattle.record_core.specs.Log.{extent}
+use Rattle.record_core.specs.Record.{record_header, record_payload}
+use Rattle.record_core.specs.Written.{AppendsRecord, Ascends, WritesRecord}
+use Rattle.record_core.proofs.RecordLemmas.{length-record_header, length-record_payload}
 
--- at a moment of a record's writing the image stands outside the record's range
-within_record : (image : List ℕ) (place : ℕ) (header payload : List ℕ) → place + (length header + length payload) ≤ length image → (call : Option DeviceCall) (c : List ℕ)
-    → IsPayloadFirst image place header payload call c → Torn place (length header + length payload) image c
-within_record image place header payload fits call c first =
+-- what stands up to a unit differs in the range of the whole alone
+first_torn : (image : List ℕ) (place : ℕ) (bytes : List ℕ) (done : ℕ) → done ≤ length bytes → place + length bytes ≤ length image → Torn place (length bytes) image (put image place (take done bytes))
+first_torn image place bytes done most fits =
+    let long : length (take done bytes) ≡ done = length-take-le done bytes most in
+    Torn-widen place (length (take done bytes)) place (length bytes) (omega arith) (omega (arith, long, most))
+    (Torn-put image place (take done bytes) (omega (arith, long, most, fits)))
+
+-- each moment of an ascending write lies in its range
+pub Within-ascends : (prog place : ℕ) (bytes image : List ℕ) (call : Option DeviceCall) (c : List ℕ) → place + length bytes ≤ length image → Ascends prog place bytes image call c → Within place (length bytes) image call c
+Within-ascends prog place bytes image None c fits first =
+    subst (λ (l : List ℕ). Torn place (length bytes) image l) (sym first.is) (first_torn image place bytes first.done first.most fits)
+Within-ascends prog place bytes image (Some call) c fits in_units =
+    let done : ℕ = in_units.done in
+    let most : done ≤ length bytes = omega (arith, in_units.within) in
+    let long : length (part bytes done in_units.count) ≡ in_units.count = length-part bytes done in_units.count in_units.within in
+    let first : List ℕ = take done bytes in
+    let first_long : length first ≡ done = length-take-le done bytes most in
+    Within-moment_within place (length bytes) image (put image place first) (place + done) (part bytes done in_units.count) (Some call) c
+    (first_torn image place bytes done most fits) (omega arith) (omega (arith, long, in_units.within))
+    (omega (arith, long, in_units.within, fits, length-put image place first (omega (arith, first_long, most, fits))))
+    in_units.moment
+
+-- and so does each moment of the write of a record
+pub Within-record : (prog place : ℕ) (header payload image : List ℕ) (call : Option DeviceCall) (c : List ℕ) → place + (length header + length payload) ≤ length image → WritesRecord prog place header payload image call c → Within place (length header + length payload) image call c
+Within-record prog place header payload image call c fits moment =
     let behind : ℕ = place + length header in
     let n : ℕ = length header + length payload in
     let payload_fits : behind + length payload ≤ length image = omega arith in
     let so_far : Torn place n image (payload_put image place header payload) =
     Torn-widen behind (length payload) place n (omega arith) (omega arith) (Torn-put image behind payload payload_fits) in
     ⊎_elim
-    (λ torn. Torn-widen behind (length payload) place n (omega arith) (omega arith) torn)
-    (λ moment. Torn-moment_within place n image (payload_put image place header payload) place header call c so_far (omega arith) (omega arith)
-    (omega (arith, fits, length-put image behind payload payload_fits)) moment)
-    first
+    (λ ascends. Within-widen behind (length payload) place n image call c (omega arith) (omega arith) (Within-ascends prog behind payload image call c payload_fits ascends))
+    (λ of_header. Within-moment_within place n image (payload_put image place header payload) place header call c so_far (omega arith) (omega arith)
+    (omega (arith, fits, length-put image behind payload payload_fits)) of_header)
+    moment
 
-module _ {old : FlashState} (lawful : IsLawful old) (valid : IsValid old.geometry) (at : ℕ) (r : Write) (inside : at + extent old.geometry.prog r ≤ size_of old.geometry) where
-  abbrev header : List ℕ
-  header = record_header old.geometry.prog r.flags r.key r.value
-
-  abbrev payload : List ℕ
-  payload = record_payload old.geometry.prog r.key r.value
-
-  size_is : length header + length payload ≡ extent old.geometry.prog r
-  size_is =
-      let positive = prog_positive old.geometry valid in
-      omega (arith, length-record_header old.geometry.prog positive r.flags r.key r.value, length-record_payload old.geometry.prog positive r.flags r.key r.value)
-
-  fits : (image : List ℕ) → old.image ≡ Some image → at + extent old.geometry.prog r ≤ length image
-  fits image told = omega (arith, inside, lawful.sized image told)
-
-  stays : (image : List ℕ) → old.image ≡ Some image → (call : Option DeviceCall) (c : List ℕ) → IsPayloadFirst image at header payload call c → Within at (extent old.geometry.prog r) image call c
-  stays image told call c first =
-      subst (λ (n : ℕ). Torn at n image c) size_is (within_record image at header payload (omega (arith, fits image told, size_is)) call c first)
-
-  module _ {T E : Type 0} {new : FlashState} where
-    pub append_moments : {result : Result T E} → WritesRecord old new at header payload result → IfTold old.image (λ image. EachMoment old new (Within at (extent old.geometry.prog r) image))
-    append_moments writes image told = weakened (Within at (extent old.geometry.prog r) image) (stays image told) (writes.moments image told)
-
-    pub append_failed : {e : E} → WritesRecord {T = T} old new at header payload (Err e) → IfTold old.image (λ image. IfTold new.image (λ left. Torn at (extent old.geometry.prog r) image left))
-    append_failed writes image told left stands =
-        let failed = writes.failed image told left stands in
-        stays image told (Some failed.call) left failed.inside
-
-    whole : {x : T} → WritesRecord {E = E} old new at header payload (Ok x) → (image left : List ℕ) → old.image ≡ Some image → new.image ≡ Some left → put image at (spelling_of old.geometry.prog r) ≡ left
-    unfolding record_bytes
-    whole writes image left told stands = some_is _ left (sym (writes.written image told) ∙ stands)
-      where
-        some_is : (x y : List ℕ) → Some x ≡ Some y → x ≡ y
-        some_is x y same = cc
-
-    pub append_outside : {x : T} → WritesRecord {E = E} old new at header payload (Ok x) → IfTold old.image (λ image. IfTold new.image (λ left. Torn at (extent old.geometry.prog r) image left))
-    append_outside writes image told left stands =
-        let long = length-record_bytes old.geometry.prog (prog_positive old.geometry valid) r.flags r.key r.value in
-        subst (λ (c : List ℕ). Torn at (extent old.geometry.prog r) image c) (whole writes image left told stands)
-        (subst (λ (n : ℕ). Torn at n image (put image at (spelling_of old.geometry.prog r))) long (Torn-put image at (spelling_of old.geometry.prog r) (omega (arith, long, fits image told))))
-
-    pub append_stands : {x : T} → IsTrue (is_key r.key) → IsHeader r.flags (length r.key) (length r.value) → WritesRecord {E = E} old new at header payload (Ok x) → IfTold old.image (λ image. IfTold new.image (λ left. IsRecordAt old.geometry.prog left at r))
-    append_stands key valid_header writes image told left stands =
-        subst (λ (c : List ℕ). IsRecordAt old.geometry.prog c at r) (whole writes image left told stands)
-        (IsRecordAt-put old.geometry.prog (prog_positive old.geometry valid) image at r key valid_header (fits image told))
+pub append_within : {old new : FlashState} {ending : Ending} (lawful : IsLawful old) (valid : IsValid old.geometry) (at : ℕ) (r : Write) → at + extent old.geometry.prog r ≤ size_of old.geometry → RunsBy old new (AppendsRecord old.geometry.prog at r) ending
+    → RunsBy old new (Within at (extent old.geometry.prog r)) ending
+append_within {old} {new} {ending} lawful valid at r inside runs =
+    let prog : ℕ = old.geometry.prog in
+    let positive = prog_positive old.geometry valid in
+    let size : length (record_header prog r.flags r.key r.value) + length (record_payload prog r.key r.value) ≡ extent prog r =
+    omega (arith, length-record_header prog positive r.flags r.key r.value, length-record_payload prog positive r.flags r.key r.value) in
+    runs_weakened (Within at (extent prog r))
+    (λ image told call c moment. subst (λ (n : ℕ). Within at n image call c) size
+    (Within-record prog at (record_header prog r.flags r.key r.value) (record_payload prog r.key r.value) image call c
+    (omega (arith, size, inside, lawful.sized image told)) moment)) runs

@@ -7,8 +7,8 @@ use Rattle.std.proofs.Math.Seq.{take-append_seam, take-length}
 use Rattle.flash_core.specs.declared.geometry.Geometry.{Geometry}
 use Rattle.flash_core.specs.Images.{IsErased, Torn, part}
 use Rattle.kv_model.specs.declared.call.Got.{Got}
-use Rattle.kv_model.specs.History.{Write}
-use Rattle.kv_model.specs.Sizes.{up}
+use Rattle.kv_model.specs.Write.{Write}
+use Rattle.base_core.specs.Units.{up}
 use Rattle.record_core.specs.Header.{header_bytes}
 use Rattle.record_core.specs.Log.{AreRecords, IsRecordAt, extent}
 use Rattle.record_core.proofs.LogLemmas.{AreRecords-append, AreRecords-Torn, all_before_erased, extent-positive, header_at, key_at, one_list}

@@ -1,5 +1,5 @@
 -- What reads of one piece behind another give.
-use Rattle.std.proofs.Common.{◌≡◌, ℕ, ◌+◌, ◌-◌, ◌<◌, List, ◌++◌, length, get_or, refl, sym, ◌∙◌, ap, arith}
+use Rattle.std.proofs.Common.{◌≡◌, ℕ, ◌+◌, ◌-◌, ◌<◌, List, ◌++◌, length, get_or, append_assoc, refl, sym, ◌∙◌, ap, subst, arith}
 use Rattle.std.specs.Prelude.{◌↔◌, Ok, Err, EachIndex, slice_index}
 use Rattle.std.proofs.lemmas.Bool.{cases_lt}
 use Rattle.std.proofs.Common.{inl, inr}
@@ -8,12 +8,15 @@ use Rattle.flash_core.specs.Calls.{OnlyReads}
 use Rattle.flash_core.specs.Images.{part, IsErased}
 use Rattle.flash_core.specs.State.{FlashState}
 use Rattle.flash_core.proofs.ImageLaws.{get_or-part}
-use Rattle.flash_core.proofs.KeptLaws.{OnlyReads-trans, Rose-since}
+use Rattle.base_core.proofs.CountLemmas.{Rose-since}
+use Rattle.flash_core.proofs.KeptLaws.{OnlyReads-trans}
 use Rattle.kv_model.specs.Crc.{crc_from, crc_of}
 use Rattle.kv_model.proofs.CrcLemmas.{crc_from-append}
 use Rattle.kv_model.specs.declared.error.KvError.{KvError}
 use Rattle.record_core.specs.Reading.{HasRead}
-use Rattle.record_core.proofs.ReaderLemmas.{crc_of-more}
+use Rattle.record_core.specs.Lookup.{IsCrcOf, IsSeen}
+use Rattle.record_core.proofs.LookupLemmas.{IsSeen-more, IsSeen-since}
+use Rattle.record_core.proofs.RecordLemmas.{part-middle}
 
 -- a read behind reads, whose fault is handed on
 pub read_failed : {T U : Type 0} {old mid new : FlashState} (e : KvError) → OnlyReads old mid → HasRead {T = T} mid new (Err e) → HasRead {T = U} old new (Err e)
@@ -49,15 +52,31 @@ erased_more image place done count before piece i from to = elim (cases_lt i (pl
   | inr behind ↦ piece i behind (omega arith)
 ]
 
--- the CRC of a range that was read in three pieces behind other bytes
-pub crc_in_three : (image front : List ℕ) (place a b c n start first second third : ℕ) → start ≡ crc_of front → first ≡ crc_from start (part image place a) → second ≡ crc_from first (part image (place + a) b)
-    → third ≡ crc_from second (part image (place + a + b) c) → a + b + c ≡ n → third ≡ crc_of (front ++ part image place n)
-crc_in_three image front place a b c n start first second third start_is first_is second_is third_is whole =
+-- A range that was read in three pieces, of which the second was kept, and the CRC of other bytes and of it.
+pub record InThree (s : FlashState) (place a n : ℕ) (front out : List ℕ) (sum : ℕ) : Type 0 where
+  pub payload : List ℕ
+  pub seen : IsSeen s place n payload
+  pub is : sum ≡ crc_of (front ++ payload)
+  pub kept : out ≡ part payload a (length out)
+
+pub in_three : {s mid last : FlashState} (place a b c n : ℕ) (front out : List ℕ) (start before through sum : ℕ) → OnlyReads s mid → OnlyReads s last → start ≡ crc_of front → IsCrcOf s place a start before → IsSeen mid (place + a) b out
+    → through ≡ crc_from before out → IsCrcOf last (place + a + b) c through sum → a + b + c ≡ n → InThree s place a n front out sum
+in_three {s} {mid} {last} place a b c n front out start before through sum reads more start_is first second through_is third whole =
+    let tail : List ℕ = third.bytes in
+    let payload : List ℕ = first.bytes ++ (out ++ tail) in
     let at : place + a + b ≡ place + (a + b) = omega arith in
-    third_is
-    ∙ ap (λ (k : ℕ). crc_from k (part image (place + a + b) c)) (second_is ∙ ap (λ (k : ℕ). crc_from k (part image (place + a) b)) first_is ∙ crc_of-more start image place a b)
-    ∙ ap (λ (p : ℕ). crc_from (crc_from start (part image place (a + b))) (part image p c)) at
-    ∙ crc_of-more start image place (a + b) c
-    ∙ ap (λ (k : ℕ). crc_from start (part image place k)) whole
-    ∙ ap (λ (k : ℕ). crc_from k (part image place n)) start_is
-    ∙ sym (crc_from-append 0xFFFF_FFFF front (part image place n))
+    let two : IsSeen s place (a + b) (first.bytes ++ out) = IsSeen-more first.seen (IsSeen-since reads second) in
+    let three : IsSeen s place (a + b + c) ((first.bytes ++ out) ++ tail) =
+    IsSeen-more two (IsSeen-since more (subst (λ (p : ℕ). IsSeen last p c tail) at third.seen)) in
+    record {
+      payload = payload;
+      seen = subst (λ (l : List ℕ). IsSeen s place n l) (append_assoc first.bytes out tail) (subst (λ (k : ℕ). IsSeen s place k ((first.bytes ++ out) ++ tail)) whole three);
+      is =
+          third.is
+          ∙ ap (λ (k : ℕ). crc_from k tail) (through_is ∙ ap (λ (k : ℕ). crc_from k out) (first.is ∙ ap (λ (k : ℕ). crc_from k first.bytes) start_is))
+          ∙ sym (ap (λ (k : ℕ). crc_from (crc_from k out) tail) (crc_from-append 0xFFFF_FFFF front first.bytes))
+          ∙ sym (ap (λ (k : ℕ). crc_from k tail) (crc_from-append 0xFFFF_FFFF (front ++ first.bytes) out))
+          ∙ sym (crc_from-append 0xFFFF_FFFF ((front ++ first.bytes) ++ out) tail)
+          ∙ ap crc_of (append_assoc (front ++ first.bytes) out tail ∙ append_assoc front first.bytes (out ++ tail));
+      kept = sym (part-middle first.bytes out tail a (length out) (sym first.seen.long) refl);
+    }

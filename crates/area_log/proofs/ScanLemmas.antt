@@ -6,14 +6,15 @@ use Rattle.flash_core.specs.Calls.{OnlyReads}
 use Rattle.std.proofs.Math.Nat.{zero-mod}
 use Rattle.flash_core.specs.Sizes.{IsValid, area_size}
 use Rattle.flash_core.specs.State.{FlashState}
-use Rattle.flash_core.specs.Up.{IsMultipleOf}
+use Rattle.base_core.specs.Units.{IsMultipleOf}
 use Rattle.flash_core.proofs.GeometryLaws.{area_whole_progs}
-use Rattle.flash_core.proofs.KeptLaws.{Rose-since}
-use Rattle.flash_core.proofs.Units.{IsMultipleOf-add}
+use Rattle.base_core.proofs.CountLemmas.{Rose-since}
+use Rattle.base_core.proofs.UnitLemmas.{IsMultipleOf-add}
 use Rattle.kv_model.specs.declared.error.KvError.{KvError}
-use Rattle.kv_model.specs.History.{Write}
-use Rattle.kv_model.specs.Sizes.{up, master_size, record_size}
-use Rattle.kv_model.proofs.SizesLemmas.{up-ge, up-multiple}
+use Rattle.kv_model.specs.Write.{Write}
+use Rattle.base_core.specs.Units.{up}
+use Rattle.base_core.specs.Sizes.{master_size, record_size}
+use Rattle.base_core.proofs.UnitLemmas.{up-ge, up-multiple}
 use Rattle.record_core.specs.declared.header.Header.{Header}
 use Rattle.record_core.specs.Log.{AreRecords, extent}
 use Rattle.record_core.specs.Reading.{HasNoRecord, HasRecord, IsFitting, RecordAt}

@@ -2,8 +2,8 @@
 use Rattle.std.specs.Prelude.{◌≡◌, ℕ, ◌+◌, ◌≤◌}
 use Rattle.flash_core.specs.declared.geometry.Geometry.{Geometry}
 use Rattle.flash_core.specs.Sizes.{area_size}
-use Rattle.flash_core.specs.Up.{IsMultipleOf}
-use Rattle.kv_model.specs.Sizes.{master_size}
+use Rattle.base_core.specs.Units.{IsMultipleOf}
+use Rattle.base_core.specs.Sizes.{master_size}
 use Rattle.record_core.specs.Written.{IsArea}
 use Rattle.area_log.specs.declared.area.Area.{Area}
 

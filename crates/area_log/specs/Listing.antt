@@ -4,13 +4,13 @@ use Rattle.flash_core.specs.declared.geometry.Geometry.{Geometry}
 use Rattle.flash_core.specs.State.{FlashState}
 use Rattle.kv_model.specs.declared.error.KvError.{KvError}
 use Rattle.kv_model.specs.declared.error.KvError.TheVariants.{Memory}
-use Rattle.kv_model.specs.History.{Write}
+use Rattle.kv_model.specs.Write.{Write}
 use Rattle.record_core.specs.declared.header.Header.{Header}
+use Rattle.record_core.specs.Lookup.{IsReadFault}
 use Rattle.record_core.specs.Log.{AreAllRecords, AreRecords, IsRecordAt, extent}
 use Rattle.record_core.specs.Record.{header_of}
 use Rattle.area_log.specs.declared.area.Area.{Area}
 use Rattle.area_log.specs.Areas.{end_of, first_place}
-use Rattle.area_log.specs.Reading.{IsReadFault}
 
 -- a record that a walk shows: its place, its key and its header
 pub record Found : Type 0 where

@@ -1,52 +1,20 @@
 -- What calls answer that only read the device.
-use Rattle.std.specs.Prelude.{◌≡◌, ◌≢◌, ◌⊎◌, ℕ, ◌+◌, ◌-◌, ◌≤◌, ◌<◌, ◌%◌, ◌^◌, ◌↔◌, min, List, ◌++◌, length, replicate, take, slice_range, Option, OnOk, Result}
-use Rattle.std.specs.Int.{w32, to_le_bytes}
+use Rattle.std.specs.Prelude.{◌≡◌, ◌≢◌, ◌⊎◌, ℕ, ◌+◌, ◌-◌, ◌≤◌, ◌<◌, ◌^◌, ◌↔◌, min, List, ◌++◌, length, replicate, IsTrue, Option, OnOk, Result, MatchResult}
 use Rattle.flash_core.specs.declared.geometry.Geometry.{Geometry}
-use Rattle.flash_core.specs.Calls.{Rose}
 use Rattle.flash_core.specs.Images.{part}
-use Rattle.flash_core.specs.State.{DeviceCall, FlashState, IfTold}
+use Rattle.flash_core.specs.State.{DeviceCall, FlashState}
 use Rattle.kv_model.specs.declared.error.KvError.{KvError}
-use Rattle.kv_model.specs.declared.error.KvError.TheVariants.{ReadFault, Corrupt, InvalidSize}
+use Rattle.kv_model.specs.declared.error.KvError.TheVariants.{Corrupt, InvalidSize}
 use Rattle.kv_model.specs.declared.call.Got.{Got}
 use Rattle.kv_model.specs.Crc.{crc_of}
-use Rattle.kv_model.specs.History.{Write}
+use Rattle.kv_model.specs.Write.{Write}
+use Rattle.base_core.specs.Units.{up}
 use Rattle.record_core.specs.declared.header.Header.{Header}
 use Rattle.record_core.specs.Header.{header_front}
 use Rattle.record_core.specs.Log.{IsRecordAt, extent}
-use Rattle.record_core.specs.Record.{record_crc}
+use Rattle.record_core.specs.Lookup.{HeadBroken, HeadSeen, IsReadFault, IsSeen}
 use Rattle.area_log.specs.declared.area.Area.{Area}
 use Rattle.area_log.specs.Areas.{end_of}
-
--- A fault of a read: the count rose in this call, and the device was not steady.
-pub record IsReadFault (old new : FlashState) (e : KvError) : Type 0 where
-  pub is : e ≡ ReadFault
-  pub rose : Rose old.read_faults new.read_faults
-  pub unsteady : old.steady → ⊥
-
--- Two CRCs that differ, of a device that doesn't tell its image.
-pub record IsCorrupt (s : FlashState) (e : KvError) : Type 0 where
-  pub stored : ℕ
-  pub computed : ℕ
-  pub is : e ≡ Corrupt stored computed
-  pub differ : stored ≢ computed
-  pub untold : IfTold s.image (λ image. ⊥)
-
--- Two CRCs that differ, where the one that stands in a told image isn't right.
-pub record IsMismatch (HasRightCrc : List ℕ → Type 0) (s : FlashState) (e : KvError) : Type 0 where
-  pub stored : ℕ
-  pub computed : ℕ
-  pub is : e ≡ Corrupt stored computed
-  pub differ : stored ≢ computed
-  pub wrong : IfTold s.image (λ image. HasRightCrc image → ⊥)
-
--- The offset is above the size of the value of the record at this place.
-pub record IsBeyond (s : FlashState) (at offset : ℕ) (e : KvError) : Type 0 where
-  pub is : e ≡ InvalidSize
-  pub beyond : IfTold s.image (λ image. (r : Write) → IsRecordAt s.geometry.prog image at r → length r.value < offset)
-
--- why a value is not given
-abbrev pub IsNotRead : FlashState → FlashState → ℕ → ℕ → KvError → Type 0
-IsNotRead old new at offset e = IsReadFault old new e ⊎ (IsCorrupt old e ⊎ IsBeyond old at offset e)
 
 -- A record stands at this place of an area, and ends in it.
 pub record HoldsRecord (g : Geometry) (image : List ℕ) (area : Area) (at : ℕ) : Type 0 where
@@ -62,7 +30,7 @@ filled room bytes = bytes ++ replicate (room - length bytes) 0
 pub record IsWithin (offset room : ℕ) (got : Got) : Type 0 where
   pub in_value : offset ≤ got.size
   pub read : got.read ≡ min (got.size - offset) room
-  pub size_most : got.size ≤ 65572
+  pub size_most : got.size ≤ 65592
 
 -- The flags and the size of the whole value were given, and at the front of the buffer its bytes from the offset on.
 pub record Gives (r : Write) (offset : ℕ) (buf : List ℕ) (got : Got) : Type 0 where
@@ -70,23 +38,53 @@ pub record Gives (r : Write) (offset : ℕ) (buf : List ℕ) (got : Got) : Type 
   pub size : got.size ≡ length r.value
   pub bytes : buf ≡ filled (length buf) (part r.value offset got.read)
 
--- What is said of a header that breaks a rule, by its bytes: the CRC that it has, and the complement of that.
-pub record IsBroken (bytes : List ℕ) (e : KvError) : Type 0 where
-  pub stored : ℕ
-  pub spelled : slice_range bytes 20 24 ≡ to_le_bytes w32 stored
-  pub is : e ≡ Corrupt stored (2 ^ 32 - 1 - stored)
+-- This payload, the key and the value, was read behind this header, whose record takes at most this room.
+pub record IsRead (s : FlashState) (place room : ℕ) (header : Header) (payload : List ℕ) : Type 0 where
+  pub head : HeadSeen s place room header
+  pub seen : IsSeen s (place + up s.geometry.prog 24) (header.key_size + header.value_size) payload
 
--- A header that was read is that of this record, and so are the bytes in front of its CRC.
-pub record IsHeadOf (r : Write) (header : Header) (bytes : List ℕ) : Type 0 where
-  pub flags : header.flags ≡ r.flags
-  pub key_size : header.key_size ≡ length r.key
-  pub value_size : header.value_size ≡ length r.value
-  pub crc : header.crc ≡ record_crc r.flags r.key r.value % 2 ^ 32
-  pub front : take 20 bytes ≡ header_front r.flags (length r.key) (length r.value)
+-- the CRC of a header's front and of a payload
+abbrev pub sum_of : Header → List ℕ → ℕ
+sum_of header payload = crc_of (header_front header.flags header.key_size header.value_size ++ payload)
 
--- The CRC in a header is that of the bytes in front of it and of the payload at this place.
-abbrev pub IsRight : List ℕ → ℕ → Header → List ℕ → Type 0
-IsRight image place header bytes = crc_of (take 20 bytes ++ part image place (header.key_size + header.value_size)) % 2 ^ 32 ≡ header.crc
+-- The CRC in the header is not that of what was read: it is answered, and then the one of what was read.
+pub record IsMismatch (s : FlashState) (place room : ℕ) (e : KvError) : Type 0 where
+  pub header : Header
+  pub payload : List ℕ
+  pub read : IsRead s place room header payload
+  pub differ : header.crc ≢ sum_of header payload
+  pub fits : sum_of header payload < 2 ^ 32
+  pub is : e ≡ Corrupt header.crc (sum_of header payload)
+
+-- The CRC is right, and the offset above the size of the value.
+pub record IsBeyond (s : FlashState) (place room offset : ℕ) (e : KvError) : Type 0 where
+  pub header : Header
+  pub payload : List ℕ
+  pub read : IsRead s place room header payload
+  pub right : header.crc ≡ sum_of header payload
+  pub beyond : header.value_size < offset
+  pub is : e ≡ InvalidSize
+
+-- The CRC is right, and bytes are given of what was read, from the offset on as many as there are and fit.
+pub record GivesRead (s : FlashState) (place room offset : ℕ) (buf : List ℕ) (got : Got) : Type 0 where
+  pub header : Header
+  pub payload : List ℕ
+  pub read : IsRead s place room header payload
+  pub right : header.crc ≡ sum_of header payload
+  pub in_value : offset ≤ header.value_size
+  pub flags : got.flags.bits ≡ header.flags
+  pub size : got.size ≡ header.value_size
+  pub count : got.read ≡ min (header.value_size - offset) (length buf)
+  pub bytes : buf ≡ filled (length buf) (part payload (header.key_size + offset) got.read)
+
+-- why a value is not given
+abbrev pub IsNotRead : FlashState → FlashState → ℕ → ℕ → ℕ → KvError → Type 0
+IsNotRead old new place room offset e =
+    IsReadFault old new e ⊎ (HeadBroken old place room e ⊎ (IsMismatch old place room e ⊎ IsBeyond old place room offset e))
+
+-- the value of the record at this place, which takes at most this room, from the offset on, or why it is not given
+abbrev pub ReadsValue : FlashState → FlashState → ℕ → ℕ → ℕ → List ℕ → Result Got KvError → Type 0
+ReadsValue old new place room offset buf result = MatchResult result (GivesRead old place room offset buf) (IsNotRead old new place room offset)
 
 -- Nothing has changed but the count of read faults and whether the device is steady and sound. A sound device stays
 -- sound, and a steady one steady behind Ok.
@@ -99,7 +97,7 @@ pub record Visits {T E : Type 0} (old new : FlashState) (result : Result T E) : 
   pub torn : new.torn ≡ old.torn
   pub read_faults : old.read_faults ≤ new.read_faults
   pub write_faults : new.write_faults ≡ old.write_faults
-  pub steady : old.steady → OnOk result new.steady
-  pub sound : old.sound → new.sound
+  pub steady : IsTrue old.steady → OnOk result (IsTrue new.steady)
+  pub sound : IsTrue old.sound → IsTrue new.sound
   pub moment : new.moment ≡ old.moment
   pub told : (t : ℕ) (call : Option DeviceCall) (c : List ℕ) → new.left_since t call c ↔ old.left_since t call c

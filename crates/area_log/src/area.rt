@@ -1,18 +1,18 @@
 // An area, what is appended to it, and its tail.
-ghost use Rattle.std.specs.Prelude.{◌≡◌, ◌↔◌, ◌+◌, ◌-◌, ◌≤◌, length, IsTrue, IfOk, IfErr, OnOk};
-ghost use Rattle.flash_core.specs.Calls.{Rose};
-ghost use Rattle.flash_core.specs.Images.{IsErased, Torn};
-ghost use Rattle.flash_core.specs.Moments.{EachMoment};
+ghost use Rattle.std.specs.Prelude.{◌≡◌, ◌↔◌, ◌+◌, ◌-◌, ◌≤◌, length, IsTrue, IfOk, IfErr, Some};
+ghost use Rattle.base_core.specs.Sizes.{record_size};
+ghost use Rattle.base_core.specs.Units.{IsMultipleOf};
+ghost use Rattle.flash_core.specs.Images.{IsErased, put};
+ghost use Rattle.flash_core.specs.Moments.{Within};
+ghost use Rattle.flash_core.specs.Runs.{RunsBy};
 ghost use Rattle.flash_core.specs.Sizes.{IsValid};
-ghost use Rattle.flash_core.specs.State.{IfTold};
-ghost use Rattle.flash_core.specs.Up.{IsMultipleOf};
-ghost use Rattle.kv_model.specs.Sizes.{record_size};
+ghost use Rattle.flash_core.specs.State.{IfTold, OnImage};
 ghost use Rattle.kv_model.specs.declared.error.KvError.TheVariants.{WriteFault};
+ghost use Rattle.record_core.specs.Endings.{kv_ended};
 ghost use Rattle.record_core.specs.Header.{IsHeader};
-ghost use Rattle.record_core.specs.Log.{IsRecordAt};
+ghost use Rattle.record_core.specs.Log.{spelling_of};
 ghost use Rattle.record_core.specs.Reading.{HasRead};
-ghost use Rattle.record_core.specs.Record.{record_header, record_payload};
-ghost use Rattle.record_core.specs.Written.{Within, WritesRecord};
+ghost use Rattle.record_core.specs.Written.{AppendsRecord};
 
 use crate::range::is_erased_range;
 use flash_core::Flash;
@@ -33,10 +33,11 @@ impl Area {
 
     /// Programs a record from `at` on, a multiple of the program unit: the key and the value, and then the header. The
     /// answer is the place behind the record. `WriteFault` comes only where the count of write faults rose. `flags` is
-    /// 0, 1 (write-once) or 2^31 (a remove, whose value is empty); a value has at most 65,572 bytes; the record's range
+    /// 0, 1 (write-once) or 2^31 (a remove, whose value is empty); a value has at most 65,592 bytes; the record's range
     /// is erased and lies in the area. `work` has at least 64 bytes and at least a program unit.
     ///
-    /// At each moment of the call, and after a fault, the image stands outside the record's range.
+    /// At each moment of the call, and after a fault, the image stands outside the record's range, and the
+    /// payload is programmed in ascending order, each unit once, and the header when it is whole.
     pub fn append_record<F: Flash>(
         &self,
         flash: &mut F,
@@ -52,21 +53,23 @@ impl Area {
         requires least { 64 ≤ length work.old }
         requires header { IsHeader flags (length key.now) (length value.now) }
         requires aligned { IsMultipleOf (F.state flash.old).geometry.prog at }
-        requires inside { IsRange self.now at (record_size (F.state flash.old).geometry.prog (length key.now) (length value.now)) }
-        requires erased { IfTold (F.state flash.old).image (λ image.
-            IsErased image at (record_size (F.state flash.old).geometry.prog (length key.now) (length value.now))) }
+        requires inside { IsRange self.now at
+            (record_size (F.state flash.old).geometry.prog (length key.now) (length value.now)) }
+        requires erased { IfTold (F.state flash.old).image (λ image. IsErased image at
+            (record_size (F.state flash.old).geometry.prog (length key.now) (length value.now))) }
 
-        ensures end { IfOk result (λ end. end ≡ at + record_size (F.state flash.old).geometry.prog (length key.now) (length value.now)) }
-        ensures cause { IfErr result (λ e. (e ≡ WriteFault) × Rose (F.state flash.old).write_faults (F.state flash.new).write_faults) }
-        ensures writes { WritesRecord (F.state flash.old) (F.state flash.new) at
-            (record_header (F.state flash.old).geometry.prog flags key.now value.now)
-            (record_payload (F.state flash.old).geometry.prog key.now value.now) result }
-        ensures stands { IfTold (F.state flash.old).image (λ image. OnOk result (IfTold (F.state flash.new).image (λ left.
-            IsRecordAt (F.state flash.old).geometry.prog left at (record { flags = flags; key = key.now; value = value.now })))) }
-        ensures moments { IfTold (F.state flash.old).image (λ image. EachMoment (F.state flash.old) (F.state flash.new)
-            (Within at (record_size (F.state flash.old).geometry.prog (length key.now) (length value.now)) image)) }
-        ensures outside { IfTold (F.state flash.old).image (λ image. IfTold (F.state flash.new).image (λ left.
-            Torn at (record_size (F.state flash.old).geometry.prog (length key.now) (length value.now)) image left)) }
+        ensures end { IfOk result (λ end. end ≡ at
+            + record_size (F.state flash.old).geometry.prog (length key.now) (length value.now)) }
+        ensures fault { IfErr result (λ e. e ≡ WriteFault) }
+        ensures runs { RunsBy (F.state flash.old) (F.state flash.new)
+            (AppendsRecord (F.state flash.old).geometry.prog at
+            (record { flags = flags; key = key.now; value = value.now })) (kv_ended result) }
+        ensures within { RunsBy (F.state flash.old) (F.state flash.new)
+            (Within at (record_size (F.state flash.old).geometry.prog (length key.now) (length value.now)))
+            (kv_ended result) }
+        ensures stands { OnImage (F.state flash.old).image result (λ image. (F.state flash.new).image
+            ≡ Some (put image at (spelling_of (F.state flash.old).geometry.prog
+            (record { flags = flags; key = key.now; value = value.now })))) }
     {
         let key_size = key.as_slice().len() as u32;
         let size = size_of_record(flash.geometry().prog, key_size, value.len() as u32);

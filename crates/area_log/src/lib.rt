@@ -13,7 +13,6 @@ mod scan;
 
 pub use area::Area;
 pub use laws::{lists_are_one, lists_go_on, rest_of_a_value_is_given};
-pub use read::broken_header;
 pub use scan::Visitor;
 
 #[cfg(test)]

@@ -2,14 +2,12 @@
 ghost use Rattle.std.specs.Prelude.{◌≡◌, ◌≤◌, List, ℕ, map, length, IfOk, replicate};
 ghost use Rattle.flash_core.specs.RecordDevice.{IsMemoryOf};
 ghost use Rattle.flash_core.specs.Sizes.{IsValid, size_of};
-ghost use Rattle.flash_core.specs.State.{IfTold};
 ghost use Rattle.area_log.specs.Listing.{Found};
-ghost use Rattle.area_log.specs.Reading.{HoldsRecord};
 
 use super::*;
 use flash_core::{Flash, Geometry, RecordFlash};
 use kv_model::{Flags, Got, Key, KvError};
-use record_core::{Header, size_of_record};
+use record_core::{Header, broken_header, size_of_record};
 use std::alloc::Global;
 use std::process::Abort;
 use std::test::Fail;
@@ -193,8 +191,6 @@ fn appended(
     value: &[u8],
 ) -> Result<(u32, RecordFlash), Fail>
     ensures geometry { IfOk result (λ found. (⟦<RecordFlash as Flash>⟧.state found.1).geometry ≡ record { prog = prog; erase = 256; units_per_area = 1 }) }
-    ensures holds { IfOk result (λ found. IfTold (⟦<RecordFlash as Flash>⟧.state found.1).image (λ image.
-        HoldsRecord (record { prog = prog; erase = 256; units_per_area = 1 }) image AREA at)) }
 {
     assert!(rt; geometry_of(prog).is_valid());
     assert!(rt; prog <= 64);

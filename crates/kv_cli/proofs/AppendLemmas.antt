@@ -11,24 +11,26 @@ use Rattle.flash_core.specs.Calls.{Keeps}
 use Rattle.flash_core.specs.Images.{part, IsErased, Torn}
 use Rattle.flash_core.specs.Sizes.{IsValid, area_size, size_of}
 use Rattle.flash_core.specs.State.{FlashState}
-use Rattle.flash_core.specs.Up.{IsMultipleOf}
+use Rattle.base_core.specs.Units.{IsMultipleOf}
 use Rattle.flash_core.proofs.ImageLaws.{IsErased-Torn, IsErased-within, part-Torn}
 use Rattle.flash_core.proofs.GeometryLaws.{prog_positive, size-areas}
-use Rattle.flash_core.proofs.Units.{IsMultipleOf-add, IsMultipleOf-up}
+use Rattle.base_core.proofs.UnitLemmas.{IsMultipleOf-add, IsMultipleOf-up}
 use Rattle.kv_model.specs.Crc.{key_hash}
 use Rattle.kv_model.specs.FlaggedMap.{Stored, FlaggedMap}
 use Rattle.kv_model.specs.Flags.{remove_flags}
-use Rattle.kv_model.specs.History.{Write}
-use Rattle.kv_model.specs.Sizes.{up, master_size}
+use Rattle.kv_model.specs.Write.{Write, applied}
+use Rattle.base_core.specs.Units.{up}
+use Rattle.base_core.specs.Sizes.{master_size}
 use Rattle.kv_model.specs.StoreState.{StoreState}
 use Rattle.kv_model.specs.declared.call.Reply.{Reply}
 use Rattle.kv_model.specs.declared.call.Reply.TheVariants.{Done}
 use Rattle.kv_model.specs.declared.error.KvError.{KvError}
 use Rattle.kv_model.specs.declared.error.KvError.TheVariants.{Memory}
-use Rattle.record_core.specs.Log.{AreAllRecords, AreRecords, IsRecordAt, applied, extent}
+use Rattle.record_core.specs.Log.{AreAllRecords, AreRecords, IsRecordAt, extent}
 use Rattle.record_core.specs.Mounts.{ActiveRecords, MasterAt}
 use Rattle.record_core.specs.Record.{IsMaster}
-use Rattle.record_core.proofs.LogLemmas.{AreRecords-append, AreRecords-Torn, all_before_erased, extent-positive, map_of-append}
+use Rattle.record_core.proofs.LogLemmas.{AreRecords-append, AreRecords-Torn, all_before_erased, extent-positive}
+use Rattle.kv_model.proofs.WritesLemmas.{map_of-append}
 use Rattle.area_log.specs.declared.area.Area.{Area}
 use Rattle.area_log.specs.Areas.{end_of, first_place, IsAreaOf}
 use Rattle.area_log.specs.Listing.{Found, IsNext, found_at, listed}

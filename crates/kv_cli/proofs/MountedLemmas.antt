@@ -9,9 +9,10 @@ use Rattle.flash_core.specs.Sizes.{IsValid, area_size, size_of}
 use Rattle.flash_core.specs.State.{FlashState, IfTold, IsLawful}
 use Rattle.flash_core.proofs.GeometryLaws.{prog_positive, size-areas}
 use Rattle.flash_core.proofs.ImageLaws.{IsErased-put, IsErased-Torn, IsErased-within, Torn-put, part-Torn}
-use Rattle.kv_model.specs.Sizes.{master_size}
+use Rattle.base_core.specs.Sizes.{master_size}
 use Rattle.kv_model.specs.StoreState.{fresh_state}
-use Rattle.record_core.specs.Log.{AreAllRecords, map_of}
+use Rattle.record_core.specs.Log.{AreAllRecords}
+use Rattle.kv_model.specs.Write.{map_of}
 use Rattle.record_core.specs.Mounts.{Contents, Holds, MasterAt, active_area}
 use Rattle.record_core.specs.Record.{IsMaster, master_bytes}
 use Rattle.record_core.proofs.LogLemmas.{all_before_erased, extent-positive}

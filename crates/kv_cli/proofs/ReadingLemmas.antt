@@ -10,8 +10,8 @@ use Rattle.kv_model.specs.FlaggedMap.{Stored}
 use Rattle.kv_model.specs.declared.call.Reply.{Reply}
 use Rattle.kv_model.specs.declared.call.Reply.TheVariants.{Refused, Value}
 use Rattle.flash_core.specs.State.{FlashState, IfTold}
-use Rattle.kv_model.specs.History.{Write}
-use Rattle.kv_model.specs.declared.bytes.NoMemory.{NoMemory}
+use Rattle.kv_model.specs.Write.{Write}
+use Rattle.base_core.specs.declared.no_memory.NoMemory.{NoMemory}
 use Rattle.kv_model.specs.declared.call.Got.{Got}
 use Rattle.kv_model.specs.declared.error.KvError.{KvError}
 use Rattle.kv_model.specs.declared.error.KvError.TheVariants.{InvalidSize, Memory, NotFound}
@@ -76,7 +76,7 @@ pub never_below_none : (n : ℕ) → nat_lt n 0 ≡ true → ⊥
 never_below_none n is = grind (arith, nat_tests)
 
 -- all of a value is a part of it
-pub all_of : (value : List ℕ) → length value ≤ 65572 → take 4294967295 (drop 0 value) ≡ value
+pub all_of : (value : List ℕ) → length value ≤ 65592 → take 4294967295 (drop 0 value) ≡ value
 all_of value most = take_all 4294967295 value (omega arith)
 
 -- the reply of a call that was answered

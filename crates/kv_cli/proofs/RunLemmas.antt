@@ -18,8 +18,11 @@ use Rattle.kv_model.specs.declared.call.Reply.TheVariants.{Done}
 use Rattle.kv_model.specs.declared.call.Reply.TheVariants as reply
 use Rattle.kv_model.specs.StoreState.{StoreState, OpenSet}
 use Rattle.kv_model.specs.Operations.{Operation, operation_of}
-use Rattle.kv_model.specs.PlainStep.{plain_step}
-use Rattle.kv_model.specs.History.{AreNumbered, Runs, Mounts, Steps, Write, set_after, written, writes, plain_rules}
+use Rattle.kv_model.specs.PlainStep.{plain_step, plain_rules}
+use Rattle.kv_model.specs.History.{AreNumbered, Runs}
+use Rattle.kv_model.specs.Rules.{Mounts, Steps}
+use Rattle.kv_model.specs.Write.{Write}
+use Rattle.kv_model.specs.Writes.{set_after, written, writes}
 use Rattle.kv_model.proofs.HistoryLemmas.{runs_more}
 use Rattle.area_log.specs.declared.area.Area.{Area}
 use Rattle.ram_table.specs.declared.table.Entry.{Entry as Slot}

@@ -6,7 +6,7 @@ use Rattle.kv_model.specs.declared.error.KvError.TheVariants as error
 use Rattle.kv_model.specs.declared.call.Reply.TheVariants as reply
 use Rattle.kv_model.specs.Keys.{is_key}
 use Rattle.kv_model.specs.Flags.{is_write_once}
-use Rattle.kv_model.specs.Sizes.{record_size}
+use Rattle.base_core.specs.Sizes.{record_size}
 use Rattle.kv_cli.specs.LogStore.{flags_in, with_record, without_record}
 use Rattle.kv_model.specs.FlaggedMap.{Stored}
 use Rattle.kv_model.specs.StoreState.{StoreState}
@@ -16,7 +16,9 @@ use Rattle.kv_model.specs.declared.call.Call.TheVariants as call
 use Rattle.script_core.specs.declared.line.Act.TheVariants.{Do}
 use Rattle.kv_cli.specs.Inputs.{IsEarlyAct}
 use Rattle.kv_cli.specs.Replays.{IsFaultless}
-use Rattle.kv_model.specs.PlainStep.{Constants, Outcome, plain_step}
+use Rattle.kv_model.specs.Constants.{Constants}
+use Rattle.kv_model.specs.Rules.{Outcome}
+use Rattle.kv_model.specs.PlainStep.{plain_step}
 
 module _ (constants : Constants) (state : StoreState) (who : ℕ) (running : state.doubt ≡ None) (key : List ℕ) where
   pub get_bad_key : is_key key ≡ false → plain_step constants state who (Get key) ≡ record { state = state; reply = reply.Refused error.InvalidKey }
@@ -68,10 +70,10 @@ module _ (constants : Constants) (state : StoreState) (who : ℕ) (running : sta
     set_bad_flags bad = simp (running, valid, bad)
 
     module _ (plain : nat_lt flags 2 ≡ true) where
-      pub set_too_large : nat_lt 65572 (length value) ≡ true → plain_step constants state who (Set key value flags) ≡ refused error.InvalidSize
+      pub set_too_large : nat_lt 65592 (length value) ≡ true → plain_step constants state who (Set key value flags) ≡ refused error.InvalidSize
       set_too_large large = simp (running, valid, plain, large)
 
-      module _ (fits : nat_lt 65572 (length value) ≡ false) where
+      module _ (fits : nat_lt 65592 (length value) ≡ false) where
         pub set_protected : is_write_once (flags_in state key) ≡ true → plain_step constants state who (Set key value flags) ≡ refused error.WriteProtected
         set_protected protected = simp (running, no_set, valid, plain, fits, protected)
 
@@ -144,7 +146,7 @@ module _ (constants : Constants) (state : StoreState) (who : ℕ) (running : sta
   remove_replies no_set key true false false false is_valid is_absent is_protected is_full = told _ (remove_done constants state who running no_set key is_valid is_absent is_protected is_full) tt
 
   set_replies : state.open_set ≡ None → (key value : List ℕ) (flags : ℕ) (valid plain large protected full : Bool)
-      → is_key key ≡ valid → nat_lt flags 2 ≡ plain → nat_lt 65572 (length value) ≡ large → is_write_once (flags_in state key) ≡ protected
+      → is_key key ≡ valid → nat_lt flags 2 ≡ plain → nat_lt 65592 (length value) ≡ large → is_write_once (flags_in state key) ≡ protected
       → nat_lt constants.room (state.spent + record_size constants.prog (length key) (length value)) ≡ full
       → IsFaultless (plain_step constants state who (Set key value flags)).reply
   set_replies no_set key value flags false plain large protected full is_valid is_plain is_large is_protected is_full = told _ (set_bad_key constants state who running no_set key value flags is_valid) tt
@@ -157,7 +159,7 @@ module _ (constants : Constants) (state : StoreState) (who : ℕ) (running : sta
   pub early_replies : state.open_set ≡ None → (call : Call) → IsEarlyAct (Do call)
       → MatchOption (operation_of call) ⊥ (λ operation. IsFaultless (plain_step constants state who operation).reply)
   early_replies no_set (call.Get key) early = get_replies key (is_key key) (map.get state.primary key) refl refl
-  early_replies no_set (call.Set key value flags) early = set_replies no_set key value flags.bits (is_key key) (nat_lt flags.bits 2) (nat_lt 65572 (length value))
+  early_replies no_set (call.Set key value flags) early = set_replies no_set key value flags.bits (is_key key) (nat_lt flags.bits 2) (nat_lt 65592 (length value))
       (is_write_once (flags_in state key)) (nat_lt constants.room (state.spent + record_size constants.prog (length key) (length value))) refl refl refl refl refl
   early_replies no_set (call.Part key offset count) early = part_replies key offset count (is_key key) (map.get state.primary key) refl refl
   early_replies no_set (call.Info key) early = info_replies key (is_key key) (map.get state.primary key) refl refl

@@ -11,13 +11,15 @@ use Rattle.flash_core.specs.Calls.{OnlyReads}
 use Rattle.flash_core.specs.Images.{IsErased}
 use Rattle.flash_core.specs.Sizes.{IsValid, size_of}
 use Rattle.flash_core.specs.State.{FlashState}
-use Rattle.flash_core.specs.Up.{IsMultipleOf}
+use Rattle.base_core.specs.Units.{IsMultipleOf}
 use Rattle.kv_model.specs.Flags.{is_write_once, remove_flags}
-use Rattle.kv_model.specs.Sizes.{record_size}
+use Rattle.base_core.specs.Sizes.{record_size}
 use Rattle.kv_model.specs.declared.error.KvError.TheVariants.{WriteProtected, MediaFull}
-use Rattle.kv_model.specs.History.{Write}
+use Rattle.kv_model.specs.Write.{Write}
 use Rattle.kv_model.specs.Operations.{Operation}
-use Rattle.kv_model.specs.PlainStep.{Constants, Outcome, plain_step}
+use Rattle.kv_model.specs.Constants.{Constants}
+use Rattle.kv_model.specs.Rules.{Outcome}
+use Rattle.kv_model.specs.PlainStep.{plain_step}
 use Rattle.kv_model.specs.StoreState.{StoreState}
 use Rattle.kv_model.specs.Keys.{is_key, is_prefix}
 use Rattle.record_core.specs.Header.{IsHeader}
@@ -108,7 +110,7 @@ unfolding is_key is_prefix
 key_sizes bytes valid = search rules
 
 -- a header of a value that a plain store takes
-pub plain_header : (flags key_size value_size : ℕ) → flags < 2 → 1 ≤ key_size → key_size ≤ 128 → value_size ≤ 65572 → IsHeader flags key_size value_size
+pub plain_header : (flags key_size value_size : ℕ) → flags < 2 → 1 ≤ key_size → key_size ≤ 128 → value_size ≤ 65592 → IsHeader flags key_size value_size
 plain_header flags key_size value_size plain least most value_most = record {
   kind = elim (cases_eq flags 0) [ inl is ↦ inl is | inr other ↦ inr (inl (omega arith)) ];
   key_least = least;

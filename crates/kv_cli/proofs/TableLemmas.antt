@@ -8,12 +8,13 @@ use Rattle.flash_core.specs.Sizes.{IsValid, area_size}
 use Rattle.flash_core.specs.State.{FlashState}
 use Rattle.flash_core.proofs.GeometryLaws.{prog_positive}
 use Rattle.kv_model.specs.FlaggedMap.{FlaggedMap, Stored}
-use Rattle.kv_model.specs.History.{Write}
+use Rattle.kv_model.specs.Write.{Write, map_of}
 use Rattle.kv_model.specs.KeyOrder.{is_below}
-use Rattle.kv_model.specs.Sizes.{master_size, record_size, up}
+use Rattle.base_core.specs.Sizes.{master_size, record_size}
+use Rattle.base_core.specs.Units.{up}
 use Rattle.kv_model.specs.StoreState.{StoreState}
-use Rattle.kv_model.specs.PlainStep.{Constants}
-use Rattle.record_core.specs.Log.{AreAllRecords, map_of}
+use Rattle.kv_model.specs.Constants.{Constants}
+use Rattle.record_core.specs.Log.{AreAllRecords}
 use Rattle.record_core.specs.Mounts.{ActiveRecords}
 use Rattle.record_core.proofs.LogLemmas.{AreRecords-forward}
 use Rattle.area_log.specs.declared.area.Area.{Area}
@@ -96,7 +97,7 @@ module _ (g : Geometry) (valid : IsValid g) (image : List ℕ) (area : Area) (en
   kept_at key (Some place) stored is = (place, is)
 
   -- a value that the records give is that of one of them
-  pub value_most : (key : List ℕ) (stored : Stored) → map.get (map_of records) key ≡ Some stored → length stored.bytes ≤ 65572
+  pub value_most : (key : List ℕ) (stored : Stored) → map.get (map_of records) key ≡ Some stored → length stored.bytes ≤ 65592
   value_most key stored is =
       (kept_at key (map.get places key) stored (subst (IsLinked g.prog image end key (map.get places key)) is (linked key))).1.stands.valid_header.value_most
 

@@ -6,11 +6,13 @@ use Rattle.flash_core.specs.declared.geometry.Geometry.{Geometry}
 use Rattle.flash_core.specs.Images.{IsErased}
 use Rattle.flash_core.specs.Sizes.{area_size}
 use Rattle.flash_core.specs.State.{FlashState}
-use Rattle.flash_core.specs.Up.{IsMultipleOf}
+use Rattle.base_core.specs.Units.{IsMultipleOf}
 use Rattle.kv_model.specs.FlaggedMap.{Stored}
-use Rattle.kv_model.specs.Sizes.{record_size, room_of}
+use Rattle.base_core.specs.Sizes.{record_size}
+use Rattle.kv_model.specs.Sizes.{room_of}
 use Rattle.kv_model.specs.StoreState.{StoreState}
-use Rattle.kv_model.specs.PlainStep.{Constants, plain_step}
+use Rattle.kv_model.specs.Constants.{Constants}
+use Rattle.kv_model.specs.PlainStep.{plain_step}
 use Rattle.kv_model.specs.Operations.{Operation, Set, Remove, operation_of}
 use Rattle.kv_model.specs.declared.call.Call.{Call}
 use Rattle.kv_model.specs.declared.call.Reply.{Reply}
@@ -18,8 +20,8 @@ use Rattle.kv_model.specs.declared.call.Reply.TheVariants.{Done, Refused}
 use Rattle.kv_model.specs.declared.error.KvError.{KvError}
 use Rattle.kv_model.specs.declared.error.KvError.TheVariants.{Memory, WriteProtected, MediaFull}
 use Rattle.kv_model.specs.Flags.{is_write_once, remove_flags}
-use Rattle.kv_model.specs.History.{Write}
-use Rattle.record_core.specs.Log.{applied, extent, map_of}
+use Rattle.kv_model.specs.Write.{Write, applied, map_of}
+use Rattle.record_core.specs.Log.{extent}
 use Rattle.record_core.specs.Mounts.{Contents, Holds, active_area}
 use Rattle.area_log.specs.declared.area.Area.{Area}
 use Rattle.area_log.specs.Areas.{end_of, first_place, IsAreaOf}

@@ -10,8 +10,11 @@ use Rattle.kv_model.specs.declared.call.Reply.{Reply}
 use Rattle.kv_model.specs.declared.call.Reply.TheVariants.{Refused}
 use Rattle.kv_model.specs.declared.error.KvError.TheVariants as error
 use Rattle.kv_model.specs.StoreState.{StoreState, fresh_state}
-use Rattle.kv_model.specs.PlainStep.{Constants}
-use Rattle.kv_model.specs.History.{IsLegal, Write, writes, plain_rules}
+use Rattle.kv_model.specs.Constants.{Constants}
+use Rattle.kv_model.specs.History.{IsLegal}
+use Rattle.kv_model.specs.Write.{Write}
+use Rattle.kv_model.specs.Writes.{writes}
+use Rattle.kv_model.specs.PlainStep.{plain_rules}
 use Rattle.record_core.specs.Mounts.{Holds, Mounts}
 use Rattle.script_core.specs.declared.line.Act.{Act}
 use Rattle.script_core.specs.declared.line.Act.TheVariants.{Do, Cut}

@@ -4,7 +4,10 @@ use Rattle.std.specs.List.{flat_map}
 use Rattle.flash_core.specs.State.{FlashState}
 use Rattle.kv_model.specs.declared.call.Entry.{Entry}
 use Rattle.kv_model.specs.StoreState.{StoreState}
-use Rattle.kv_model.specs.History.{AreNumbered, Runs, Follows, Write, set_after, written, writes, plain_rules}
+use Rattle.kv_model.specs.History.{AreNumbered, Runs, Follows}
+use Rattle.kv_model.specs.Write.{Write}
+use Rattle.kv_model.specs.Writes.{set_after, written, writes}
+use Rattle.kv_model.specs.PlainStep.{plain_rules}
 use Rattle.area_log.specs.declared.area.Area.{Area}
 use Rattle.ram_table.specs.declared.table.Entry.{Entry as Slot}
 use Rattle.script_core.specs.declared.line.Line.{Line}

@@ -1,6 +1,6 @@
 // Replays the lines of a script over an erased device.
 ghost use Rattle.std.specs.Prelude.{◌≡◌, List, [], ◌<◌, ◌≤◌, length, All, IfOk};
-ghost use Rattle.kv_model.specs.History.{Write};
+ghost use Rattle.kv_model.specs.Write.{Write};
 ghost use Rattle.kv_model.specs.Sizes.{room_of};
 ghost use Rattle.kv_model.specs.StoreState.{StoreState};
 ghost use Rattle.kv_cli.specs.Images.{IsErasedImage};

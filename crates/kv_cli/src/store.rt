@@ -5,15 +5,15 @@ ghost use Rattle.flash_core.specs.Calls.{OnlyReads};
 ghost use Rattle.flash_core.specs.Sizes.{size_of};
 ghost use Rattle.kv_model.specs.Crc.{key_hash};
 ghost use Rattle.kv_model.specs.Flags.{remove_flags};
-ghost use Rattle.kv_model.specs.History.{Write};
+ghost use Rattle.kv_model.specs.Write.{Write, map_of};
 ghost use Rattle.kv_model.specs.Keys.{is_key};
-ghost use Rattle.kv_model.specs.Sizes.{record_size};
+ghost use Rattle.base_core.specs.Sizes.{record_size};
 ghost use Rattle.kv_model.specs.StoreState.{StoreState, fresh_state};
-ghost use Rattle.kv_model.specs.PlainStep.{Constants};
+ghost use Rattle.kv_model.specs.Constants.{Constants};
 ghost use Rattle.kv_model.specs.Operations.{Operation, Get, Part, Info as InfoOf, Set, Remove};
 ghost use Rattle.kv_model.specs.declared.error.KvError.TheVariants.{Memory, InvalidSize};
 ghost use Rattle.record_core.specs.Header.{IsHeader};
-ghost use Rattle.record_core.specs.Log.{IsRecordAt, map_of};
+ghost use Rattle.record_core.specs.Log.{IsRecordAt};
 ghost use Rattle.record_core.specs.Mounts.{Contents, Holds};
 ghost use Rattle.script_core.specs.declared.line.Act.{Act};
 ghost use Rattle.area_log.specs.Areas.{end_of, first_place};
@@ -36,7 +36,7 @@ use std::marker::Brand;
 use std::sync::ledger::Blank;
 use tdb_mount::{area_at, hash_of, mount_parts, place_of};
 
-const MAX_VALUE: usize = 65_572;
+const MAX_VALUE: usize = 65_592;
 
 // All bits of a key's CRC are its hash.
 const HASH_BITS: u8 = 32;
@@ -310,7 +310,7 @@ impl<F: Flash> LogStore<F> {
     fn check_room(&mut self, key: &Key, place: Place, size: u32) -> Result<(), KvError>
         requires ready { IsReady (F.state self.old.flash) self.old.area self.old.end self.old.table.entries self.old.work.items }
         requires placed { IsPlaced (F.state self.old.flash) self.old.area self.old.table.entries key.now place }
-        requires small { size ≤ 65572 }
+        requires small { size ≤ 65592 }
         ensures ready { IsReady (F.state self.new.flash) self.new.area self.new.end self.new.table.entries self.new.work.items }
         ensures reads { OnlyReads (F.state self.old.flash) (F.state self.new.flash) }
         ensures area { self.new.area ≡ self.old.area }

@@ -1,6 +1,12 @@
 pub mod CrcLemmas
 pub mod HistoryLemmas
+pub mod IterationLemmas
+pub mod IteratorLemmas
 pub mod LimitLemmas
 pub mod MapLemmas
+pub mod NextKeyLemmas
 pub mod OrderLemmas
-pub mod SizesLemmas
+pub mod ReplyLemmas
+pub mod RoomLemmas
+pub mod UsedLemmas
+pub mod WritesLemmas

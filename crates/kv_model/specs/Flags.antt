@@ -1,5 +1,5 @@
 -- The bits of flags, and which of them a store takes.
-use Rattle.std.specs.Prelude.{ℕ, Bool, ◌+◌, ◌/◌, ◌%◌, ◌==◌, nat_lt, bit_and}
+use Rattle.std.specs.Prelude.{ℕ, Bool, ◌||◌, ◌+◌, ◌/◌, ◌%◌, ◌==◌, nat_lt, bit_and}
 
 -- the key can't be set again or removed
 abbrev pub is_write_once : ℕ → Bool
@@ -9,9 +9,13 @@ is_write_once flags = flags % 2 == 1
 abbrev pub is_confidential : ℕ → Bool
 is_confidential flags = (flags / 2) % 2 == 1
 
--- the value's tag is kept in the rollback store too
+-- an old image put back is noticed
 abbrev pub is_replay_protected : ℕ → Bool
 is_replay_protected flags = (flags / 8) % 2 == 1
+
+-- a secure store keeps the value's tag in its rollback store too
+abbrev pub is_mirrored : ℕ → Bool
+is_mirrored flags = is_write_once flags || is_replay_protected flags
 
 -- a plain store has write-once alone
 abbrev pub is_plain_flags : ℕ → Bool

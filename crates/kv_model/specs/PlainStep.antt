@@ -1,182 +1,117 @@
--- One call of a plain store, as a step on its map.
-use Rattle.std.specs.Prelude.{ℕ, Bool, true, false, not, ◌+◌, ◌&&◌, ◌==◌, nat_lt, nat_le, List, [], ◌∷◌, ◌++◌, length, take, drop, Option, Some, None, is_some, is_none, unwrap_or, if◌then◌else◌}
+-- The plain store: one call of it, as a step on its map.
+use Rattle.std.specs.Prelude.{◌≡◌, ℕ, false, not, ◌+◌, nat_lt, List, [], ◌∷◌, length, take, drop, Option, Some, None, is_none, if◌then◌else◌, refl}
 use Rattle.std.specs.Option.{option_map_or}
 use Rattle.std.specs.FinMap as map
-use Rattle.kv_model.specs.declared.error.KvError.{KvError}
+use Rattle.kv_model.specs.declared.limits.TheConstants.{MAX_VALUE}
 use Rattle.kv_model.specs.declared.error.KvError.TheVariants as error
-use Rattle.kv_model.specs.declared.call.Reply.{Reply}
 use Rattle.kv_model.specs.declared.call.Reply.TheVariants as reply
-use Rattle.kv_model.specs.Keys.{is_key, is_prefix}
 use Rattle.kv_model.specs.Flags.{is_plain_flags, is_write_once}
-use Rattle.kv_model.specs.FlaggedMap.{Stored}
-use Rattle.kv_model.specs.Sizes.{record_size}
-use Rattle.kv_model.specs.StoreState.{StoreState, OpenSet, Position}
+use Rattle.kv_model.specs.FlaggedMap.{Stored, FlaggedMap}
+use Rattle.base_core.specs.Sizes.{record_size}
+use Rattle.kv_model.specs.Sizes.{used}
+use Rattle.kv_model.specs.Constants.{Constants}
+use Rattle.kv_model.specs.StoreState.{Maps, StoreState, OpenSet, begun_set}
 use Rattle.kv_model.specs.Operations.{Operation, Get, Part, Info, Set, Remove, RemoveStart, Start, Add, Finish, Abort, OpenIterator, Next, CloseIterator, Reset}
-use Rattle.kv_model.specs.Checks.{Check, Refuses, Reads, Writes, first_refusal}
+use Rattle.kv_model.specs.Checks.{Check, Refuses, Reads, Writes}
+use Rattle.kv_model.specs.Rules.{Outcome, Rules, is_refusal, step}
+use Rattle.kv_model.specs.Rows.{shared_checks, shared_effect, bad_key, own_set, other_set, answers, becomes, opened, advanced, position_of}
 use Rattle.kv_model.specs.NextKey.{next_key}
 
--- what a run fixes of a plain store
-pub record Constants : Type 0 where
-  -- how many low bits of a key's CRC are its hash
-  pub hash_bits : ℕ
-  -- the program unit
-  pub prog : ℕ
-  -- what an area has for records
-  pub room : ℕ
+-- the value and the flags of a key that a map has, and of one that it lacks none
+abbrev pub bytes_in : FlaggedMap → List ℕ → List ℕ
+bytes_in m key = option_map_or (λ (s : Stored). s.bytes) (map.get m key) []
 
-pub record Outcome : Type 0 where
-  pub state : StoreState
-  pub reply : Reply
+abbrev pub flags_in : FlaggedMap → List ℕ → ℕ
+flags_in m key = option_map_or (λ (s : Stored). s.flags) (map.get m key) 0
 
--- Until the store collects, each record counts for good: its room is what the log has spent.
-abbrev pub taken_room : StoreState → ℕ
-taken_room state = state.spent
-
--- the state once a record of this key and size was written
-abbrev pub charged : Constants → StoreState → List ℕ → ℕ → StoreState
-charged constants state key size = record state { spent = state.spent + record_size constants.prog (length key) size }
+-- the map once a set is finished, or a remove
+abbrev pub finished_map : FlaggedMap → OpenSet → FlaggedMap
+finished_map m set = if set.is_remove then map.remove m set.key else map.insert m set.key (record { flags = set.flags; bytes = set.bytes })
 
 module _ (constants : Constants) (state : StoreState) (who : ℕ) where
-  abbrev stored : List ℕ → Option Stored
-  stored key = map.get state.primary key
+  -- what the map's records and one more would take: the old record of the key counts too
+  abbrev pub needed : List ℕ → ℕ → ℕ
+  needed key size = used constants.prog state.primary + record_size constants.prog (length key) size
 
-  abbrev bytes_of : List ℕ → List ℕ
-  bytes_of key = option_map_or (λ (s : Stored). s.bytes) (stored key) []
-
-  abbrev flags_of : List ℕ → ℕ
-  flags_of key = option_map_or (λ (s : Stored). s.flags) (stored key) 0
-
-  abbrev owns_set : Bool
-  owns_set = option_map_or (λ (s : OpenSet). s.owner == who) state.open_set false
-
-  abbrev set_owner : ℕ
-  set_owner = option_map_or (λ (s : OpenSet). s.owner) state.open_set 0
-
-  -- how many bytes the active set wants, and has
-  abbrev set_size : ℕ
-  set_size = option_map_or (λ (s : OpenSet). s.size) state.open_set 0
-
-  abbrev set_fed : ℕ
-  set_fed = option_map_or (λ (s : OpenSet). length s.bytes) state.open_set 0
-
-  abbrev has_iterator : ℕ → Bool
-  has_iterator n = map.contains_key state.iterators (who, n)
-
-  abbrev needed : List ℕ → ℕ → ℕ
-  needed key size = taken_room state + record_size constants.prog (length key) size
-
-  abbrev bad_key : List ℕ → Check
-  bad_key key = Refuses (not (is_key key)) error.InvalidKey
-
-  abbrev absent : List ℕ → Check
-  absent key = Refuses (is_none (stored key)) error.NotFound
-
-  abbrev own_set : Check
-  own_set = Refuses owns_set error.SetOpen
-
-  -- behind own_set, so the set is another's
-  abbrev other_set : Check
-  other_set = Refuses (is_some state.open_set) (error.Busy set_owner)
-
-  abbrev no_set : Check
-  no_set = Refuses (not owns_set) error.NoSet
-
-  abbrev protected : List ℕ → Check
-  protected key = Refuses (is_write_once (flags_of key)) error.WriteProtected
-
-  abbrev no_room : List ℕ → ℕ → Check
+  abbrev pub no_room : List ℕ → ℕ → Check
   no_room key size = Refuses (nat_lt constants.room (needed key size)) (error.MediaFull (needed key size) constants.room)
 
-  abbrev no_iterator : ℕ → Check
-  no_iterator n = Refuses (not (has_iterator n)) error.NoIterator
+  abbrev pub absent : List ℕ → Check
+  absent key = Refuses (is_none (map.get state.primary key)) error.NotFound
 
-  abbrev set_checks : List ℕ → ℕ → ℕ → List Check
-  set_checks key size flags =
-      bad_key key ∷ Refuses (not (is_plain_flags flags)) error.InvalidFlags ∷ Refuses (nat_lt 65572 size) error.InvalidSize
-      ∷ own_set ∷ other_set ∷ Reads ∷ protected key ∷ no_room key size ∷ Writes ∷ []
+  abbrev pub protected : List ℕ → Check
+  protected key = Refuses (is_write_once (flags_in state.primary key)) error.WriteProtected
 
-  abbrev remove_checks : List ℕ → List Check
-  remove_checks key = bad_key key ∷ own_set ∷ other_set ∷ Reads ∷ absent key ∷ protected key ∷ no_room key 0 ∷ Writes ∷ []
+  -- behind these a set and a start differ from one store to the next by their room alone
+  abbrev pub set_checks : Check → List ℕ → ℕ → ℕ → List Check
+  set_checks full key size flags =
+      bad_key state who key ∷ Refuses (not (is_plain_flags flags)) error.InvalidFlags ∷ Refuses (nat_lt MAX_VALUE size) error.InvalidSize
+      ∷ own_set state who ∷ other_set state who ∷ Reads ∷ protected key ∷ full ∷ Writes ∷ []
+
+  abbrev pub remove_checks : List ℕ → List Check
+  remove_checks key = bad_key state who key ∷ own_set state who ∷ other_set state who ∷ Reads ∷ absent key ∷ protected key ∷ Writes ∷ []
+
+  abbrev own_checks : Operation → List Check
+  own_checks (Get key) = bad_key state who key ∷ Reads ∷ absent key ∷ []
+  own_checks (Part key offset count) =
+      bad_key state who key ∷ Reads ∷ absent key ∷ Refuses (nat_lt (length (bytes_in state.primary key)) offset) error.InvalidSize ∷ []
+  own_checks (Info key) = bad_key state who key ∷ Reads ∷ absent key ∷ []
+  own_checks (Set key value flags) = set_checks (no_room key (length value)) key (length value) flags
+  own_checks (Start key size flags) = set_checks (no_room key size) key size flags
+  own_checks (Remove key) = remove_checks key
+  own_checks (RemoveStart key) = remove_checks key
+  own_checks operation = []
 
   abbrev pub plain_checks : Operation → List Check
-  plain_checks (Get key) = bad_key key ∷ Reads ∷ absent key ∷ []
-  plain_checks (Part key offset count) = bad_key key ∷ Reads ∷ absent key ∷ Refuses (nat_lt (length (bytes_of key)) offset) error.InvalidSize ∷ []
-  plain_checks (Info key) = bad_key key ∷ Reads ∷ absent key ∷ []
-  plain_checks (Set key value flags) = set_checks key (length value) flags
-  plain_checks (Start key size flags) = set_checks key size flags
-  plain_checks (Add value) = no_set ∷ Refuses (nat_lt set_size (set_fed + length value)) error.InvalidSize ∷ Writes ∷ []
-  plain_checks Finish = no_set ∷ Refuses (nat_lt set_fed set_size) error.InvalidSize ∷ Writes ∷ []
-  plain_checks Abort = no_set ∷ []
-  plain_checks (Remove key) = remove_checks key
-  plain_checks (RemoveStart key) = remove_checks key
-  plain_checks Reset = own_set ∷ other_set ∷ Writes ∷ []
-  plain_checks (OpenIterator n prefix) =
-      Refuses (not (is_prefix prefix)) error.InvalidKey ∷ Refuses (nat_le 16 (map.len state.iterators) && not (has_iterator n)) error.TooManyIterators ∷ []
-  plain_checks (Next n) = no_iterator n ∷ Reads ∷ []
-  plain_checks (CloseIterator n) = no_iterator n ∷ []
+  plain_checks = shared_checks state who own_checks
 
-  abbrev answers : Reply → Outcome
-  answers reply = record { state = state; reply = reply }
+  abbrev pub finished : OpenSet → Maps
+  finished set = record { primary = finished_map state.primary set; rollback = state.rollback }
 
-  abbrev becomes : StoreState → Outcome
-  becomes new = record { state = new; reply = reply.Done }
+  abbrev with_map : FlaggedMap → StoreState
+  with_map m = record state { primary = m }
 
-  abbrev with_key : List ℕ → Stored → StoreState
-  with_key key value = record (charged constants state key (length value.bytes)) { primary = map.insert state.primary key value }
+  abbrev own_effect : Operation → Outcome
+  own_effect (Get key) = answers state who (reply.Value (bytes_in state.primary key))
+  own_effect (Part key offset count) = answers state who (reply.Value (take count (drop offset (bytes_in state.primary key))))
+  own_effect (Info key) = answers state who (reply.Facts (length (bytes_in state.primary key)) (record { bits = flags_in state.primary key }))
+  own_effect (Set key value flags) = becomes state who (with_map (map.insert state.primary key (record { flags = flags; bytes = value })))
+  own_effect (Start key size flags) = becomes state who (opened state who (begun_set who key flags size None))
+  own_effect (Remove key) = becomes state who (with_map (map.remove state.primary key))
+  own_effect operation = answers state who reply.Done
 
-  abbrev without_key : List ℕ → StoreState
-  without_key key = record (charged constants state key 0) { primary = map.remove state.primary key }
-
-  abbrev opened : OpenSet → StoreState
-  opened set = record state { open_set = Some set }
-
-  abbrev with_more : List ℕ → OpenSet → OpenSet
-  with_more value set = record set { bytes = set.bytes ++ value }
-
-  abbrev pub finished : OpenSet → StoreState
-  finished set =
-      if set.is_remove
-      then record (without_key set.key) { open_set = None }
-      else record (with_key set.key (record { flags = set.flags; bytes = set.bytes })) { open_set = None }
-
-  abbrev placed : ℕ → Position → StoreState
-  placed n position = record state { iterators = map.insert state.iterators (who, n) position }
-
-  abbrev position_of : ℕ → Position
-  position_of n = unwrap_or (map.get state.iterators (who, n)) (record { prefix = []; last = None })
-
-  abbrev pub advanced : ℕ → Option (List ℕ) → Outcome
-  advanced n None = answers reply.End
-  advanced n (Some key) = record { state = placed n (record (position_of n) { last = Some key }); reply = reply.Found key }
-
-  -- what the call does where nothing refuses it
   abbrev pub plain_effect : Operation → Outcome
-  plain_effect (Get key) = answers (reply.Value (bytes_of key))
-  plain_effect (Part key offset count) = answers (reply.Value (take count (drop offset (bytes_of key))))
-  plain_effect (Info key) = answers (reply.Facts (length (bytes_of key)) (record { bits = flags_of key }))
-  plain_effect (Set key value flags) = becomes (with_key key (record { flags = flags; bytes = value }))
-  plain_effect (Start key size flags) =
-      becomes (opened (record { owner = who; key = key; flags = flags; size = size; bytes = []; is_remove = false }))
-  plain_effect (Add value) = becomes (option_map_or (λ (s : OpenSet). opened (with_more value s)) state.open_set state)
-  plain_effect Finish = becomes (option_map_or finished state.open_set state)
-  plain_effect Abort = becomes (record state { open_set = None })
-  plain_effect (Remove key) = becomes (without_key key)
-  plain_effect (RemoveStart key) = becomes (opened (record { owner = who; key = key; flags = 0; size = 0; bytes = []; is_remove = true }))
-  plain_effect Reset = becomes (record state { primary = map.empty; spent = 0 })
-  plain_effect (OpenIterator n prefix) = becomes (placed n (record { prefix = prefix; last = None }))
-  plain_effect (Next n) = advanced n (next_key constants.hash_bits state.primary (position_of n))
-  plain_effect (CloseIterator n) = becomes (record state { iterators = map.remove state.iterators (who, n) })
+  plain_effect = shared_effect state who constants.hash_bits finished own_effect
 
-  -- a refusal leaves the state, but for a finish with bytes missing, which ends the set
-  abbrev pub after_refusal : Operation → KvError → StoreState
-  after_refusal Finish error.InvalidSize = record state { open_set = None }
-  after_refusal operation refusal = state
+  advanced_grants : (n : ℕ) (found : Option (List ℕ)) → is_refusal (advanced state who n found).reply ≡ false
+  advanced_grants n None = refl
+  advanced_grants n (Some key) = refl
 
-  abbrev pub refused_or : Operation → Option KvError → Outcome
-  refused_or operation (Some refusal) = record { state = after_refusal operation refusal; reply = reply.Refused refusal }
-  refused_or operation None = plain_effect operation
+  pub plain_grants : (operation : Operation) → is_refusal (plain_effect operation).reply ≡ false
+  plain_grants (Get key) = refl
+  plain_grants (Part key offset count) = refl
+  plain_grants (Info key) = refl
+  plain_grants (Set key value flags) = refl
+  plain_grants (Remove key) = refl
+  plain_grants (RemoveStart key) = refl
+  plain_grants (Start key size flags) = refl
+  plain_grants (Add value) = refl
+  plain_grants Finish = refl
+  plain_grants Abort = refl
+  plain_grants (OpenIterator n prefix) = refl
+  plain_grants (Next n) = advanced_grants n (next_key constants.hash_bits state.primary (position_of state who n))
+  plain_grants (CloseIterator n) = refl
+  plain_grants Reset = refl
 
-  -- a store that was stopped answers so until it is mounted
-  abbrev pub plain_step : Operation → Outcome
-  plain_step operation =
-      if is_some state.doubt then answers (reply.Refused error.Stopped) else refused_or operation (first_refusal (plain_checks operation))
+-- a plain store takes no number and heals nothing
+abbrev pub plain_rules : Constants → Rules
+plain_rules constants = record {
+  checks = plain_checks constants;
+  effect = plain_effect constants;
+  grants = plain_grants constants;
+  takes_number = λ operation. false;
+  heal = λ maps. maps;
+}
+
+abbrev pub plain_step : Constants → StoreState → ℕ → Operation → Outcome
+plain_step constants = step (plain_rules constants)

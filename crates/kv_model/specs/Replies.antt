@@ -3,7 +3,9 @@ use Rattle.std.specs.Prelude.{ℕ, List, [], ◌∷◌}
 use Rattle.kv_model.specs.declared.call.Reply.{Reply}
 use Rattle.kv_model.specs.StoreState.{StoreState}
 use Rattle.kv_model.specs.Operations.{Operation}
-use Rattle.kv_model.specs.PlainStep.{Constants, Outcome, plain_step}
+use Rattle.kv_model.specs.Constants.{Constants}
+use Rattle.kv_model.specs.Rules.{Outcome}
+use Rattle.kv_model.specs.PlainStep.{plain_step}
 
 abbrev pub replies_from : Constants → Outcome → List (ℕ × Operation) → List Reply
 replies_from constants outcome [] = outcome.reply ∷ []

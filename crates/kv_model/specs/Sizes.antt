@@ -1,19 +1,9 @@
--- How much of an area records take. prog is the device's program unit in bytes.
-use Rattle.std.specs.Prelude.{ℕ, ◌+◌, ◌-◌, ◌*◌, ◌/◌, List, [], ◌∷◌, length}
+-- How much of an area the records of a map take. prog is the device's program unit in bytes.
+use Rattle.std.specs.Prelude.{ℕ, ◌+◌, ◌-◌, List, [], ◌∷◌, length}
 use Rattle.std.specs.FinMap.{entries}
+unfoldable pub use Rattle.base_core.specs.Units.{up}
+pub use Rattle.base_core.specs.Sizes.{record_size, master_size}
 use Rattle.kv_model.specs.FlaggedMap.{Stored, FlaggedMap}
-
--- the least multiple of the program unit that is not less than x
-unfoldable pub up : ℕ → ℕ → ℕ
-up prog x = (x + (prog - 1)) / prog * prog
-
--- a padded header, and behind it the key and the value, padded
-abbrev pub record_size : ℕ → ℕ → ℕ → ℕ
-record_size prog key_size value_size = up prog 24 + up prog (key_size + value_size)
-
--- a master record has a key of four bytes and a value of eight
-abbrev pub master_size : ℕ → ℕ
-master_size prog = record_size prog 4 8
 
 -- what an area has for records
 abbrev pub room_of : ℕ → ℕ → ℕ

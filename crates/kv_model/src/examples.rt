@@ -1,9 +1,9 @@
 // Worked examples of the plain step, each computed from the definitions.
 ghost use Rattle.std.specs.Prelude.{◌≡◌, ◌∷◌, [], codes};
 ghost use Rattle.kv_model.specs.declared.call.Reply.TheVariants.{Done, Value, Facts, End, Refused};
-ghost use Rattle.kv_model.specs.declared.error.KvError.TheVariants.{NotFound, InvalidFlags, InvalidSize, WriteProtected, MediaFull, NoIterator, SetOpen, NoSet, Busy};
+ghost use Rattle.kv_model.specs.declared.error.KvError.TheVariants.{NotFound, InvalidFlags, InvalidSize, WriteProtected, MediaFull, TooManyIterators, NoIterator, SetOpen, NoSet, Busy};
 ghost use Rattle.kv_model.specs.Operations.{Get, Part, Info, Set, Remove, Start, Add, Finish, OpenIterator, Next, CloseIterator};
-ghost use Rattle.kv_model.specs.Examples.{example_store, empty_store, k, map_of_keys, position_behind};
+ghost use Rattle.kv_model.specs.Examples.{example_store, empty_store, k, map_of_keys, position_behind, with_iterators};
 ghost use Rattle.kv_model.specs.NextKey.{next_key};
 ghost use Rattle.kv_model.specs.Replies.{plain_replies};
 
@@ -94,6 +94,18 @@ pub fn iterators_by_number()
         ∷ (1, Next 0)
         ∷ []
         ) ≡ Refused NoIterator ∷ Done ∷ End ∷ Refused NoIterator ∷ Done ∷ Refused NoIterator ∷ [] }
+{}
+
+/// Of sixteen active iterators a further one is refused, and one of them can be opened anew.
+pub fn sixteen_iterators()
+    ensures { plain_replies example_store (with_iterators (
+        0 ∷ 1 ∷ 2 ∷ 3 ∷ 4 ∷ 5 ∷ 6 ∷ 7 ∷ 8 ∷ 9 ∷ 10 ∷ 11 ∷ 12 ∷ 13 ∷ 14 ∷ 15 ∷ []
+        )) (
+        (1, OpenIterator 16 [])
+        ∷ (2, OpenIterator 0 [])
+        ∷ (1, OpenIterator 3 [])
+        ∷ []
+        ) ≡ Refused TooManyIterators ∷ Refused TooManyIterators ∷ Done ∷ [] }
 {}
 
 /// A set that the room does not hold is refused with both sizes.

@@ -8,14 +8,14 @@ ghost use Rattle.std.proofs.Common.{rules};
 ghost use Rattle.kv_model.specs.declared.error.KvError.TheVariants.{InvalidKey};
 ghost use Rattle.kv_model.specs.Keys.{is_key, is_key_byte, is_prefix};
 
-use crate::KvError;
+use crate::{KvError, MAX_KEY};
 use std::cmp::Ordering;
 use std::marker::Model;
 
 /// A key: 1 to 128 printing bytes, none of `* / ? : ; " | < >` and the backslash, and not `TDBS`.
 #[derive(Clone, Debug, Drop)]
 pub struct Key {
-    buffer: [u8; 128],
+    buffer: [u8; MAX_KEY],
     length: u8,
 }
 
@@ -53,7 +53,7 @@ fn all_key_bytes(bytes: &[u8]) -> bool
 pub fn is_prefix(bytes: &[u8]) -> bool
     ensures { result ≡ is_prefix bytes.now }
 {
-    bytes.len() <= 128 && all_key_bytes(bytes)
+    bytes.len() <= MAX_KEY && all_key_bytes(bytes)
 }
 
 /// Whether the bytes are a key.
@@ -75,7 +75,7 @@ impl Key {
         if !is_key(bytes) {
             return Err(KvError::InvalidKey);
         }
-        let mut buffer = [0u8; 128];
+        let mut buffer = [0u8; MAX_KEY];
         buffer[..bytes.len()].copy_from_slice(bytes);
         Ok(Key {
             buffer,

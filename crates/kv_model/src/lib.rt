@@ -9,22 +9,33 @@ mod examples;
 mod flags;
 mod key;
 mod laws;
+mod limits;
+mod next_examples;
+mod next_laws;
 mod pattern;
+mod size_laws;
 
-pub use bytes::{Bytes, NoMemory};
+pub use base_core::NoMemory;
+pub use bytes::Bytes;
 pub use call::{Call, Entry, Got, Info, Reply};
 pub use error::KvError;
 pub use examples::{
     empty_value, full_store, get_beside_an_open_set, iterator_beside_changes, iterators_by_number,
-    refusals_beside_an_open_set, set_then_get, write_once,
+    refusals_beside_an_open_set, set_then_get, sixteen_iterators, write_once,
 };
 pub use flags::Flags;
 pub use key::{Key, is_key, is_prefix};
 pub use laws::{
-    crc_values, history_goes_on, key_order_is_total, limits_are_kept, padding_is_least,
-    record_sizes,
+    a_stopped_store_refuses, crc_values, history_goes_on, key_order_is_total, limits_are_kept,
+    record_sizes, room_is_kept, writes_stand_for_the_map,
 };
+pub use limits::{MAX_ITERATORS, MAX_KEY, MAX_VALUE};
+pub use next_examples::{
+    hash_bits_order_keys, iteration_in_a_history, iterator_with_equal_hashes, prefix_limits_keys,
+};
+pub use next_laws::{iterators_give_each_key_once, next_key_is_least};
 pub use pattern::Pattern;
+pub use size_laws::{used_counts_each_key, used_of_two_keys};
 
 #[cfg(test)]
 mod tests {

@@ -1,5 +1,5 @@
 -- The readers of the tests: one tells the letters a, b and c, each at the offset of its code, and one fails.
-use Rattle.std.specs.Prelude.{ℕ, [], ◌∷◌, Some, None}
+use Rattle.std.specs.Prelude.{ℕ, [], ◌∷◌, true, false, Some, None}
 use Rattle.std.specs.FinMap.{empty, insert}
 use Rattle.ram_table.specs.Reader.{KeyMap, ReaderState}
 
@@ -11,8 +11,8 @@ letters_state hash_bits = record {
   bound = 99;
   hash_bits = hash_bits;
   read_faults = 0;
-  steady = Unit {0};
-  sound = Unit {0};
+  steady = true;
+  sound = true;
   keys = Some letters;
 }
 
@@ -22,7 +22,7 @@ failing_state faults = record {
   bound = 99;
   hash_bits = 0;
   read_faults = faults;
-  steady = ⊥;
-  sound = ⊥;
+  steady = false;
+  sound = false;
   keys = None;
 }

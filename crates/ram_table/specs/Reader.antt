@@ -1,7 +1,8 @@
 -- What contracts see of a reader of keys, and what a read does to it.
-use Rattle.std.specs.Prelude.{◌≡◌, ◌⊎◌, ℕ, ◌+◌, ◌<◌, ◌≤◌, ◌^◌, List, IsTrue, Option, Some, None, Result, IfErr, OnOk}
+use Rattle.std.specs.Prelude.{◌≡◌, ℕ, ◌≤◌, List, Bool, IsTrue, Option, Some, None, Result, IfErr, OnOk}
 use Rattle.std.specs.Ordering.{nat_cmp}
 use Rattle.std.specs.FinMap.{FinMap, contains_key, get}
+use Rattle.base_core.specs.Counts.{Rose}
 use Rattle.kv_model.specs.declared.error.KvError.{KvError}
 use Rattle.kv_model.specs.declared.error.KvError.TheVariants.{ReadFault, Corrupt}
 
@@ -17,19 +18,15 @@ pub record ReaderState : Type 1 where
   -- how often a read has failed
   pub read_faults : ℕ
   -- no read fails
-  pub steady : Type 0
+  pub steady : Bool
   -- no call of what it reads from fails
-  pub sound : Type 0
+  pub sound : Bool
   -- the keys, where the reader tells them
   pub keys : Option KeyMap
 
 -- P of the keys, where they are told
 abbrev pub IfTold : Option KeyMap → (KeyMap → Type 0) → Type 0
 IfTold told P = (keys : KeyMap) → told ≡ Some keys → P keys
-
--- A count of 64 bits rose, or stands at its last value.
-abbrev pub Rose : ℕ → ℕ → Type 0
-Rose before now = (before < now) ⊎ (2 ^ 64 ≤ now + 1)
 
 -- the offset is within the bound, and a told map has it
 pub record CanReadKey (s : ReaderState) (offset : ℕ) : Type 0 where
@@ -42,13 +39,13 @@ pub record Keeps (old new : ReaderState) : Type 0 where
   pub hash_bits : new.hash_bits ≡ old.hash_bits
   pub keys : new.keys ≡ old.keys
   pub read_faults : old.read_faults ≤ new.read_faults
-  pub steady : old.steady → new.steady
-  pub sound : old.sound → new.sound
+  pub steady : IsTrue old.steady → IsTrue new.steady
+  pub sound : IsTrue old.sound → IsTrue new.sound
 
 -- A reader may refuse with these alone: a read that failed, counted, and never on a steady reader; and a header that is
 -- broken, or bytes that are no key, which a told map never shows.
 abbrev pub IsRefusal : ReaderState → ReaderState → KvError → Type 0
-IsRefusal old new ReadFault = Rose old.read_faults new.read_faults × (old.steady → ⊥)
+IsRefusal old new ReadFault = Rose old.read_faults new.read_faults × (IsTrue old.steady → ⊥)
 IsRefusal old new (Corrupt stored computed) = (stored ≡ computed → ⊥) × (old.keys ≡ None)
 IsRefusal old new _ = ⊥
 

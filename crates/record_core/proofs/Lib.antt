@@ -1,10 +1,15 @@
 pub mod AnswerLemmas
+pub mod ChanceLemmas
 pub mod CrcByTable
+pub mod EndingLemmas
+pub mod Existence
 pub mod HeaderLemmas
 pub mod LogLemmas
+pub mod LookupLemmas
 pub mod MountLemmas
 pub mod PayloadLemmas
 pub mod ReaderLemmas
 pub mod RecordLemmas
 pub mod SizeLemmas
+pub mod TornLemmas
 pub mod WriterLemmas

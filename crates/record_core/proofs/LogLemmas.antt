@@ -1,27 +1,26 @@
 -- Records at places of an image, one behind another, and their map.
 use Rattle.std.proofs.Common.{◌≡◌, ◌⊎◌, ℕ, ◌+◌, ◌-◌, ◌≤◌, List, [], ◌∷◌, ◌++◌, length, take, drop, refl, sym, ◌∙◌, ap, subst, arith, inl, inr, ⊎_elim, min, get_or, IsTrue, add-zero, ◌≢◌, Some, None, Bool, true, false, ◌==◌, if◌then◌else◌, eq-eqb, length-append}
-use Rattle.std.proofs.lemmas.Bool.{ne_eqb}
-use Rattle.std.proofs.lemmas.Bool.{cases_lt}
+use Rattle.std.proofs.lemmas.Bool.{ne_eqb, cases_lt}
 use Rattle.std.proofs.lemmas.List.{length-take, length-drop}
 use Rattle.std.proofs.Math.Seq.{take-append_seam, take-length}
 use Rattle.flash_core.specs.Images.{IsErased, part, put, Torn}
 use Rattle.flash_core.proofs.ImageLaws.{get_or-part, part-put_same, part-Torn}
 use Rattle.kv_model.specs.FlaggedMap.{FlaggedMap}
 use Rattle.kv_model.specs.Flags.{remove_flags}
-use Rattle.kv_model.specs.History.{Write}
+use Rattle.kv_model.specs.Write.{Write, applied, map_after, map_of}
 use Rattle.std.specs.FinMap as map
 use Rattle.std.specs.Ordering.{nat_cmp, eq_by_cmp}
 use Rattle.std.specs.Cmp.Lexicographic.{slice_cmp, nat_list_cmp_total}
 use Rattle.std.proofs.lemmas.Map.Text.{is_eq-slice_cmp}
 use Rattle.std.proofs.lemmas.Slice.Eq.{bytes_eq-Decides}
-use Rattle.kv_model.specs.Sizes.{up}
-use Rattle.kv_model.proofs.SizesLemmas.{up-ge}
+use Rattle.base_core.specs.Units.{up}
+use Rattle.base_core.proofs.UnitLemmas.{up-ge}
 use Rattle.kv_model.specs.Keys.{is_key}
 use Rattle.record_core.specs.Header.{IsHeader, header_front, header_bytes}
 use Rattle.record_core.specs.declared.header.Header.{Header}
 use Rattle.record_core.proofs.HeaderLemmas.{SameSizes, same_sizes}
 use Rattle.record_core.specs.Record.{header_of, IsRecord}
-use Rattle.record_core.specs.Log.{extent, spelling_of, IsRecordAt, AreRecords, AreAllRecords, applied, map_after, map_of}
+use Rattle.record_core.specs.Log.{extent, spelling_of, IsRecordAt, AreRecords, AreAllRecords}
 use Rattle.record_core.proofs.RecordLemmas.{part-part, part-key, part-value, part-header, length-record_bytes}
 
 pub first_byte : (header : Header) → get_or (header_bytes header) 0 0 ≡ 75

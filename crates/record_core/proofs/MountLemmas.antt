@@ -6,12 +6,13 @@ use Rattle.flash_core.specs.Images.{part, put}
 use Rattle.flash_core.specs.Sizes.{area_size}
 use Rattle.flash_core.proofs.ImageLaws.{get_or-part, part-put_same}
 use Rattle.kv_model.specs.FlaggedMap.{FlaggedMap}
-use Rattle.kv_model.specs.History.{Write}
+use Rattle.kv_model.specs.Write.{Write, map_of}
 use Rattle.kv_model.specs.Keys.{master_key}
-use Rattle.kv_model.specs.Sizes.{up, master_size}
-use Rattle.kv_model.proofs.SizesLemmas.{up-ge}
+use Rattle.base_core.specs.Units.{up}
+use Rattle.base_core.specs.Sizes.{master_size}
+use Rattle.base_core.proofs.UnitLemmas.{up-ge}
 use Rattle.record_core.specs.Record.{header_of, IsMaster, master_bytes, master_value}
-use Rattle.record_core.specs.Log.{AreRecords, extent, map_of}
+use Rattle.record_core.specs.Log.{AreRecords, extent}
 use Rattle.record_core.specs.Mounts.{MasterAt, active_area, ActiveRecords, Contents, Holds, Mounts, Stand, active_reads, master_reads, reads_of, record_reads}
 use Rattle.record_core.proofs.HeaderLemmas.{same_u16}
 use Rattle.record_core.proofs.RecordLemmas.{length-record_bytes, part-header, part-part, part-value}
@@ -85,11 +86,11 @@ Stand-append image [] b stand more = more
 Stand-append image (read ∷ a) b stand more = (stand.0, Stand-append image a b stand.1 more)
 
 module _ (prog : ℕ) (positive : 1 ≤ prog) (image : List ℕ) where
-  masters_stand : (area : ℕ) (version : Option ℕ) → MasterAt prog image area version → Stand image (master_reads prog area version)
+  pub masters_stand : (area : ℕ) (version : Option ℕ) → MasterAt prog image area version → Stand image (master_reads prog area version)
   masters_stand area None none = tt
   masters_stand area (Some version) is = (ap (part image area) (length-master_bytes prog positive version) ∙ is.spelling, tt)
 
-  records_stand : (place end : ℕ) (rs : List Write) → AreRecords prog image place end rs → Stand image (record_reads prog place rs)
+  pub records_stand : (place end : ℕ) (rs : List Write) → AreRecords prog image place end rs → Stand image (record_reads prog place rs)
   records_stand place end [] is = tt
   records_stand place end (r ∷ rs) records =
       (ap (part image place) (length-record_bytes prog positive r.flags r.key r.value) ∙ records.0.spelling, records_stand (place + extent prog r) end rs records.1)

@@ -4,7 +4,7 @@ use Rattle.std.proofs.lemmas.List.{places, get_or-replicate}
 use Rattle.std.proofs.Math.Seq.{get_or-append_right}
 use Rattle.flash_core.specs.Images.{part, put}
 use Rattle.flash_core.proofs.ImageLaws.{get_or-part, get_or-put_below, get_or-put_behind, get_or-put_inside, length-part}
-use Rattle.kv_model.specs.Sizes.{up}
+use Rattle.base_core.specs.Units.{up}
 use Rattle.record_core.specs.Record.{record_payload}
 
 -- bytes that stand from start on, laid over a range that begins at from

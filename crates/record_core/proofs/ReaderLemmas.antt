@@ -8,14 +8,16 @@ use Rattle.flash_core.specs.Calls.{OnlyReads}
 use Rattle.flash_core.specs.Images.{part}
 use Rattle.flash_core.specs.State.{FlashState}
 use Rattle.flash_core.proofs.ImageLaws.{length-part, part-append}
-use Rattle.flash_core.proofs.KeptLaws.{OnlyReads-trans, Rose-since}
+use Rattle.base_core.proofs.CountLemmas.{Rose-since}
+use Rattle.flash_core.proofs.KeptLaws.{OnlyReads-trans}
 use Rattle.kv_model.specs.Crc.{crc_from, crc_of}
 use Rattle.kv_model.specs.declared.error.KvError.{KvError}
-use Rattle.kv_model.specs.History.{Write}
+use Rattle.kv_model.specs.Write.{Write}
 use Rattle.kv_model.specs.Keys.{is_key, master_key}
-use Rattle.kv_model.specs.Sizes.{up, master_size, record_size}
+use Rattle.base_core.specs.Units.{up}
+use Rattle.base_core.specs.Sizes.{master_size, record_size}
 use Rattle.kv_model.proofs.CrcLemmas.{crc_from-append}
-use Rattle.kv_model.proofs.SizesLemmas.{up-ge}
+use Rattle.base_core.proofs.UnitLemmas.{up-ge}
 use Rattle.record_core.specs.declared.header.Header.{Header}
 use Rattle.record_core.specs.Header.{header_bytes, header_front, HasFields, IsHeader, IsValid}
 use Rattle.record_core.specs.Log.{IsRecordAt}

@@ -3,8 +3,9 @@ use Rattle.std.proofs.Common.{◌≡◌, ℕ, ◌+◌, ◌-◌, ◌≤◌, List,
 use Rattle.std.proofs.lemmas.List.{length-replicate, drop-take, drop-drop, take-take}
 use Rattle.std.proofs.Math.Seq.{take-append_seam, drop-append_seam}
 use Rattle.flash_core.specs.Images.{part}
-use Rattle.kv_model.specs.Sizes.{up, record_size}
-use Rattle.kv_model.proofs.SizesLemmas.{up-ge}
+use Rattle.base_core.specs.Units.{up}
+use Rattle.base_core.specs.Sizes.{record_size}
+use Rattle.base_core.proofs.UnitLemmas.{up-ge}
 use Rattle.record_core.specs.declared.header.Header.{Header}
 use Rattle.record_core.specs.Header.{header_front, header_bytes}
 use Rattle.record_core.specs.Record.{header_of, padded, record_header, record_payload, record_bytes}

@@ -1,7 +1,7 @@
 -- Padding takes less than one more program unit.
 use Rattle.std.proofs.Common.{ℕ, ◌+◌, ◌-◌, ◌≤◌}
 use Rattle.std.proofs.Math.Nat.{div-mul-le_self}
-use Rattle.kv_model.specs.Sizes.{up}
+use Rattle.base_core.specs.Units.{up}
 
 pub up-most : (prog x : ℕ) → up prog x ≤ x + (prog - 1)
 unfolding up

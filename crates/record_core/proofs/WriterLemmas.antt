@@ -1,32 +1,34 @@
--- Bytes written to a range a piece at a time.
-use Rattle.std.proofs.Common.{◌≡◌, ℕ, ◌+◌, ◌-◌, ◌<◌, ◌≤◌, List, [], ◌++◌, length, take, drop, refl, sym, ◌∙◌, ap, subst, arith, inl, inr, ⊎_elim, add-zero, append-nil, min, ◌/◌, ◌%◌, ◌*◌}
-use Rattle.std.specs.Prelude.{Option, Some, None, Result, Ok, Err, IsErr, OnErr}
+-- Bytes written to a range a piece at a time, and a record.
+use Rattle.std.proofs.Common.{◌≡◌, ◌⊎◌, ℕ, ◌+◌, ◌-◌, ◌<◌, ◌≤◌, List, [], ◌++◌, length, take, drop, refl, sym, ◌∙◌, ap, subst, arith, inl, inr, ⊎_elim, add-zero, append-nil, min, ◌/◌, ◌%◌, ◌*◌}
+use Rattle.std.specs.Prelude.{Option, Some, None, Result, Ok, Err, IsErr, IfErr}
+use Rattle.std.specs.Option.{ForSome}
 use Rattle.std.proofs.lemmas.List.{places, same_lists, take-append-drop, length-take-le}
 use Rattle.std.proofs.Math.Seq.{take-add}
 use Rattle.std.proofs.Math.Nat.{zero-mod}
-use Rattle.flash_core.proofs.Units.{IsMultipleOf-add, IsMultipleOf-mul, IsMultipleOf-sub, unit_fits}
 use Rattle.std.proofs.lemmas.Nat.{div-add-mod', mod_below}
 use Rattle.std.proofs.lemmas.Bool.{cases_lt}
 use Rattle.std.proofs.lemmas.Result.{on_ok_weaker}
 use mathlib.Core.Bool.{false≢true}
+use Rattle.base_core.specs.Sizes.{master_size}
+use Rattle.base_core.specs.Units.{IsMultipleOf, up}
+use Rattle.base_core.proofs.UnitLemmas.{IsMultipleOf-add, IsMultipleOf-mul, IsMultipleOf-sub, unit_fits, up-ge, up-least, up-multiple}
 use Rattle.flash_core.specs.declared.flash.FlashFault.{FlashFault}
+use Rattle.flash_core.specs.declared.flash.FlashFault.TheVariants as fault
 use Rattle.flash_core.specs.declared.geometry.Geometry.{Geometry}
-use Rattle.flash_core.proofs.GeometryLaws.{area_whole_progs, prog_positive, prog_le_erase, size-areas}
 use Rattle.flash_core.specs.Calls.{CanProgram, IsMomentWithin, Keeps, Writes}
 use Rattle.flash_core.specs.Images.{part, put, IsErased, Torn}
-use Rattle.flash_core.specs.Moments.{EachMoment, FailedInside}
+use Rattle.flash_core.specs.Runs.{Done, RunsBy, WriteFailed, ended}
 use Rattle.flash_core.specs.Sizes.{IsValid, area_size, size_of}
-use Rattle.flash_core.specs.State.{DeviceCall, FlashState, IfTold, IsLawful}
-use Rattle.flash_core.specs.Up.{IsMultipleOf, up as device_up}
-use Rattle.kv_model.specs.Sizes.{up, master_size}
-use Rattle.kv_model.proofs.SizesLemmas.{up-ge, up-least, up-multiple}
-use Rattle.record_core.proofs.SizeLemmas.{up-most}
-use Rattle.record_core.specs.Record.{record_payload}
+use Rattle.flash_core.specs.State.{DeviceCall, FlashState, IsLawful, OnImage}
+use Rattle.flash_core.specs.TwoPrograms.{payload_put}
+use Rattle.flash_core.proofs.GeometryLaws.{area_whole_progs, prog_positive, prog_le_erase, size-areas}
+use Rattle.flash_core.proofs.ImageLaws.{IsErased-Torn, Torn-put, length-part, length-put}
+use Rattle.flash_core.proofs.KeptLaws.{CanProgram-kept, told_before}
+use Rattle.flash_core.proofs.RunLaws.{runs_more, runs_none, runs_weakened}
+use Rattle.record_core.specs.Record.{record_bytes, record_header, record_payload}
+use Rattle.record_core.specs.Written.{Ascends, CanWrite, FirstUnits, IsArea, WritesRecord}
 use Rattle.record_core.proofs.RecordLemmas.{length-record_payload}
-use Rattle.record_core.specs.Written.{CanWrite, IsArea, IsPayloadFirst, Within, WritesRecord, WritesWithin}
-use Rattle.flash_core.proofs.ImageLaws.{IsErased-Torn, Torn-put, Torn-refl, Torn-trans, Torn-widen, length-part, length-put}
-use Rattle.flash_core.proofs.KeptLaws.{CanProgram-kept, Keeps-refl, Keeps-trans, told_before}
-use Rattle.flash_core.proofs.MomentLaws.{Torn-moment, begun, failed_inside, one_more, weakened}
+use Rattle.record_core.proofs.SizeLemmas.{up-most}
 
 -- two puts, one right behind the other
 pub put-append : (image : List ℕ) (place : ℕ) (a b : List ℕ) → place + length a + length b ≤ length image → put (put image place a) (place + length a) b ≡ put image place (a ++ b)
@@ -42,132 +44,102 @@ put-nothing image place =
     ∙ ap (λ (k : ℕ). take place image ++ drop k image) (add-zero place)
     ∙ take-append-drop place image
 
--- These bytes were written from this place on, of n in all.
-pub record Pieces (old now : FlashState) (place n : ℕ) (bytes : List ℕ) : Type 0 where
-  pub kept : Keeps old now
-  pub steady : old.steady → now.steady
-  pub torn : now.torn ≡ old.torn
-  pub written : IfTold old.image (λ image. now.image ≡ Some (put image place bytes))
-  pub moments : IfTold old.image (λ image. EachMoment old now (Within place n image))
-
-pub pieces_none : {s : FlashState} (place n : ℕ) → IsLawful s → Pieces s s place n []
-pieces_none {s} place n lawful = record {
-  kept = Keeps-refl s;
-  steady = λ steady. steady;
-  torn = refl;
-  written = λ image told. told ∙ ap Some (sym (put-nothing image place));
-  moments = λ image told. begun (Within place n image) lawful told (λ call. Torn-refl place n image);
-}
-
--- the moments of one piece more
-piece_moment : (image : List ℕ) (place n : ℕ) (bytes piece : List ℕ) (call : Option DeviceCall) (c : List ℕ) → length bytes + length piece ≤ n → place + n ≤ length image → IsMomentWithin (put image place bytes) (place + length bytes) piece call c → Torn place n image c
-piece_moment image place n bytes piece call c within fits moment =
-    let long = length-put image place bytes (omega arith) in
-    Torn-trans
-    (Torn-widen place (length bytes) place n (omega arith) (omega arith) (Torn-put image place bytes (omega arith)))
-    (Torn-widen (place + length bytes) (length piece) place n (omega arith) (omega arith)
-    (Torn-moment (put image place bytes) (place + length bytes) piece call c (omega (arith, long)) moment))
-
-range_fits : {s : FlashState} (place n : ℕ) → IsLawful s → place + n ≤ size_of s.geometry → IfTold s.image (λ image. place + n ≤ length image)
-range_fits place n lawful inside image told = omega (arith, inside, lawful.sized image told)
-
-module _ {T : Type 0} {old mid new : FlashState} {place n : ℕ} {bytes piece : List ℕ} (lawful : IsLawful old) (so_far : Pieces old mid place n bytes) (within : length bytes + length piece ≤ n) (inside : place + n ≤ size_of old.geometry) where
-  pub moments_more : {result : Result T FlashFault} → Writes mid new (place + length bytes) piece result → IfTold old.image (λ image. EachMoment old new (Within place n image))
-  moments_more wrote image told = one_more (so_far.moments image told) wrote (so_far.written image told)
-      (λ call c moment. piece_moment image place n bytes piece call c within (range_fits place n lawful inside image told) moment.0)
-
-  pub pieces_more : {x : T} → Writes mid new (place + length bytes) piece (Ok x) → Pieces old new place n (bytes ++ piece)
-  pieces_more wrote = record {
-    kept = Keeps-trans so_far.kept wrote.kept;
-    steady = λ steady. wrote.steady (so_far.steady steady);
-    torn = wrote.torn_stands ∙ so_far.torn;
-    written = λ image told.
-        wrote.written (put image place bytes) (so_far.written image told)
-        ∙ ap Some (put-append image place bytes piece (omega (arith, within, range_fits place n lawful inside image told)));
-    moments = moments_more wrote;
-  }
-
-  pub pieces_failed : (result : Result T FlashFault) → Writes mid new (place + length bytes) piece result → IfTold old.image (λ image. OnErr result (IfTold new.image (FailedInside new (Within place n image))))
-  pieces_failed result wrote image told =
-      let fits : place + n ≤ length image = range_fits place n lawful inside image told in
-      let long = length-put image place bytes (omega (arith, within)) in
-      failed_inside (Within place n image) result wrote (so_far.written image told) (omega (arith, fits, long, within))
-      (Torn-widen place (length bytes) place n (omega arith) (omega (arith, within)) (Torn-put image place bytes (omega (arith, within))))
-      (λ call c moment. piece_moment image place n bytes piece call c within fits moment)
-
--- ---- a list of bytes, as far as it was written
-
-module _ {old mid : FlashState} {place : ℕ} {piece : List ℕ} (all : List ℕ) (done count : ℕ) (within : done + count ≤ length all) (lawful : IsLawful old) (so_far : Pieces old mid place (length all) (take done all)) (inside : place + length all ≤ size_of old.geometry) (is : piece ≡ part all done count) where
-  module _ {new : FlashState} {T : Type 0} (result : Result T FlashFault) (wrote : Writes mid new (place + done) piece result) where
-    pub all_moments : IfTold old.image (λ image. EachMoment old new (Within place (length all) image))
-    all_moments =
-        let long : length (take done all) ≡ done = length-take-le done all (omega arith) in
-        let short : length (take done all) + length piece ≤ length all = omega (arith, long, ap length is ∙ length-part all done count within) in
-        moments_more lawful so_far short inside (subst (λ (k : ℕ). Writes mid new (place + k) piece result) (sym long) wrote)
-
-    pub all_failed : IfTold old.image (λ image. OnErr result (IfTold new.image (FailedInside new (Within place (length all) image))))
-    all_failed =
-        let long : length (take done all) ≡ done = length-take-le done all (omega arith) in
-        let short : length (take done all) + length piece ≤ length all = omega (arith, long, ap length is ∙ length-part all done count within) in
-        pieces_failed lawful so_far short inside result (subst (λ (k : ℕ). Writes mid new (place + k) piece result) (sym long) wrote)
-
-  pub all_more : {new : FlashState} {T : Type 0} {x : T} → Writes mid new (place + done) piece (Ok x) → Pieces old new place (length all) (take (done + count) all)
-  all_more {new} {T} {x} wrote =
-      let long : length (take done all) ≡ done = length-take-le done all (omega arith) in
-      let short : length (take done all) + length piece ≤ length all = omega (arith, long, ap length is ∙ length-part all done count within) in
-      let more : take done all ++ piece ≡ take (done + count) all = ap (λ (l : List ℕ). take done all ++ l) is ∙ sym (take-add done count all) in
-      subst (Pieces old new place (length all)) more
-      (pieces_more lawful so_far short inside (subst (λ (k : ℕ). Writes mid new (place + k) piece (Ok x)) (sym long) wrote))
-
 some_is : {X : Type 0} (x y : X) → Some x ≡ Some y → x ≡ y
 some_is x y same = cc
 
--- the next piece may be programmed
-pub next_piece : {old mid : FlashState} {place n : ℕ} {bytes : List ℕ} (done count : ℕ) → IsLawful old → Pieces old mid place n bytes → length bytes ≡ done → CanWrite old place n
-    → IsMultipleOf old.geometry.prog done → IsMultipleOf old.geometry.prog count → 1 ≤ count → count ≤ old.geometry.erase → done + count ≤ n → CanProgram mid (place + done) count
-next_piece {old} {mid} {place} {n} {bytes} done count lawful so_far long can aligned whole some most within =
-    let of_old : CanProgram old (place + done) count = record {
-      place_aligned = IsMultipleOf-add old.geometry.prog place done can.aligned aligned;
-      length_aligned = whole;
-      at_least = omega (arith, unit_fits old.geometry.prog 0 count (zero-mod old.geometry.prog) whole some);
-      at_most = most;
-      inside = omega (arith, can.inside, within);
-      erased = λ image told i from to. can.erased image told i (omega (arith, from)) (omega (arith, to, within));
-    } in
-    CanProgram-kept so_far.kept (λ image told.
-    let was = told_before so_far.kept told in
-    let fits : place + n ≤ length was.0 = range_fits place n lawful can.inside was.0 was.1 in
-    let is : put was.0 place bytes ≡ image = some_is (put was.0 place bytes) image (sym (so_far.written was.0 was.1) ∙ told) in
-    subst (λ (l : List ℕ). IsErased l (place + done) count) is
-    (IsErased-Torn place (length bytes) was.0 (put was.0 place bytes) (place + done) count
-    (Torn-put was.0 place bytes (omega (arith, fits, long, within))) (inr (omega (arith, long)))
-    (of_old.erased was.0 was.1))) of_old
+-- ---- a list of bytes, as far as it was written
 
--- ---- whole calls
+-- The first of these bytes stand from this place on, written in ascending order.
+pub record Pieces (old now : FlashState) (place : ℕ) (all : List ℕ) (done : ℕ) : Type 0 where
+  pub runs : RunsBy old now (Ascends old.geometry.prog place all) Done
+  pub written : ForSome old.image (λ image. now.image ≡ Some (put image place (take done all)))
+  pub whole : IsMultipleOf old.geometry.prog done
+  pub most : done ≤ length all
 
-pub writes_failed : {T E : Type 0} {old new : FlashState} {place : ℕ} {all : List ℕ} (result : Result T E) → IsErr result → Keeps old new → (old.sound → ⊥)
-    → IfTold old.image (λ image. EachMoment old new (Within place (length all) image)) → IfTold old.image (λ image. IfTold new.image (FailedInside new (Within place (length all) image))) → WritesWithin old new place all result
-writes_failed (Ok x) is kept never moments failed = absurd (false≢true is)
-writes_failed (Err e) is kept never moments failed = record {
-  kept = kept;
-  steady = λ steady. tt;
-  sound = λ sound. absurd (never sound);
-  written = λ image told. tt;
-  torn_stands = tt;
-  moments = moments;
-  failed = failed;
+nothing_put : (prog place : ℕ) (all image : List ℕ) → FirstUnits prog place all image image
+nothing_put prog place all image = record { done = 0; whole = zero-mod prog; most = omega arith; is = sym (put-nothing image place) }
+
+pub pieces_none : (s : FlashState) (place : ℕ) (all : List ℕ) → Pieces s s place all 0
+pieces_none s place all = record {
+  runs = runs_none s (Ascends s.geometry.prog place all) Done tt (λ image told. nothing_put s.geometry.prog place all image);
+  written = λ image told. told ∙ ap Some (sym (put-nothing image place));
+  whole = zero-mod s.geometry.prog;
+  most = omega arith;
 }
 
-pub writes_all : {T E : Type 0} {old new : FlashState} {place : ℕ} {all : List ℕ} {x : T} → Pieces old new place (length all) all → WritesWithin {E = E} old new place all (Ok x)
-writes_all pieces = record {
-  kept = pieces.kept;
-  steady = pieces.steady;
-  sound = λ sound. refl;
-  written = pieces.written;
-  torn_stands = pieces.torn;
-  moments = pieces.moments;
-  failed = λ image told. tt;
+-- one piece more
+put_more : (image : List ℕ) (place : ℕ) (all : List ℕ) (done count : ℕ) → done + count ≤ length all → place + length all ≤ length image → put (put image place (take done all)) (place + done) (part all done count) ≡ put image place (take (done + count) all)
+put_more image place all done count within fits =
+    let long : length (take done all) ≡ done = length-take-le done all (omega arith) in
+    let piece : length (part all done count) ≡ count = length-part all done count within in
+    ap (λ (k : ℕ). put (put image place (take done all)) (place + k) (part all done count)) (sym long)
+    ∙ put-append image place (take done all) (part all done count) (omega (arith, long, piece, within, fits))
+    ∙ ap (put image place) (sym (take-add done count all))
+
+-- each moment of its program is one of the whole
+next_moment : (prog place : ℕ) (all image : List ℕ) (done count : ℕ) → IsMultipleOf prog done → IsMultipleOf prog count → done + count ≤ length all → place + length all ≤ length image → (call : Option DeviceCall) (c : List ℕ)
+    → IsMomentWithin (put image place (take done all)) (place + done) (part all done count) call c → Ascends prog place all image call c
+next_moment prog place all image done count whole whole_count within fits None c is = record {
+  done = done + count;
+  whole = IsMultipleOf-add prog done count whole whole_count;
+  most = within;
+  is = is ∙ put_more image place all done count within fits;
 }
+next_moment prog place all image done count whole whole_count within fits (Some call) c moment = record {
+  done = done;
+  count = count;
+  whole = whole;
+  within = within;
+  moment = moment;
+}
+
+range_fits : {s : FlashState} (place n : ℕ) → IsLawful s → place + n ≤ size_of s.geometry → ForSome s.image (λ image. place + n ≤ length image)
+range_fits place n lawful inside image told = omega (arith, inside, lawful.sized image told)
+
+module _ {old mid : FlashState} {place : ℕ} {all : List ℕ} {done : ℕ} (lawful : IsLawful old) (so_far : Pieces old mid place all done) (inside : place + length all ≤ size_of old.geometry) where
+  put_so_far : (image now : List ℕ) → old.image ≡ Some image → mid.image ≡ Some now → now ≡ put image place (take done all)
+  put_so_far image now told mid_told = some_is now (put image place (take done all)) (sym mid_told ∙ so_far.written image told)
+
+  module _ {new : FlashState} {T : Type 0} {piece : List ℕ} (count : ℕ) (whole : IsMultipleOf old.geometry.prog count) (within : done + count ≤ length all) (is : piece ≡ part all done count) where
+    pub piece_runs : IsLawful mid → (result : Result T FlashFault) → Writes mid new (place + done) piece result → RunsBy old new (Ascends old.geometry.prog place all) (ended result)
+    piece_runs lawful_mid result wrote =
+        let long : length piece ≡ count = ap length is ∙ length-part all done count within in
+        runs_more result so_far.runs wrote
+        (λ now told. omega (arith, long, within, inside, lawful_mid.sized now told, ap size_of so_far.runs.kept.geometry))
+        (λ image now told mid_told was call c moment. next_moment old.geometry.prog place all image done count so_far.whole whole within (range_fits place (length all) lawful inside image told) call c
+        (subst (λ (l : List ℕ). IsMomentWithin l (place + done) (part all done count) call c) (put_so_far image now told mid_told)
+        (subst (λ (l : List ℕ). IsMomentWithin now (place + done) l call c) is moment)))
+
+    pub pieces_more : {x : T} → IsLawful mid → Writes mid new (place + done) piece (Ok x) → Pieces old new place all (done + count)
+    pieces_more {x} lawful_mid wrote = record {
+      runs = piece_runs lawful_mid (Ok x) wrote;
+      written = λ image told.
+          wrote.written (put image place (take done all)) (so_far.written image told)
+          ∙ ap (λ (l : List ℕ). Some (put (put image place (take done all)) (place + done) l)) is
+          ∙ ap Some (put_more image place all done count within (range_fits place (length all) lawful inside image told));
+      whole = IsMultipleOf-add old.geometry.prog done count so_far.whole whole;
+      most = within;
+    }
+
+  -- the next piece may be programmed
+  pub next_piece : (count : ℕ) → CanWrite old place (length all) → IsMultipleOf old.geometry.prog count → 1 ≤ count → count ≤ old.geometry.erase → done + count ≤ length all → CanProgram mid (place + done) count
+  next_piece count can whole some most within =
+      let of_old : CanProgram old (place + done) count = record {
+        place_aligned = IsMultipleOf-add old.geometry.prog place done can.aligned so_far.whole;
+        length_aligned = whole;
+        at_least = omega (arith, unit_fits old.geometry.prog 0 count (zero-mod old.geometry.prog) whole some);
+        at_most = most;
+        inside = omega (arith, can.inside, within);
+        erased = λ image told i from to. can.erased image told i (omega (arith, from)) (omega (arith, to, within));
+      } in
+      let long : length (take done all) ≡ done = length-take-le done all so_far.most in
+      CanProgram-kept so_far.runs.kept (λ now mid_told.
+      let was = told_before so_far.runs.kept mid_told in
+      let fits : place + length all ≤ length was.0 = range_fits place (length all) lawful inside was.0 was.1 in
+      subst (λ (l : List ℕ). IsErased l (place + done) count) (sym (put_so_far was.0 now was.1 mid_told))
+      (IsErased-Torn place (length (take done all)) was.0 (put was.0 place (take done all)) (place + done) count
+      (Torn-put was.0 place (take done all) (omega (arith, fits, long, within))) (inr (omega (arith, long)))
+      (of_old.erased was.0 was.1))) of_old
 
 -- how many bytes the next piece has
 pub record IsStep (prog erase work n done count : ℕ) : Type 0 where
@@ -221,10 +193,6 @@ module _ (g : Geometry) (valid : IsValid g) (key value : List ℕ) where
 
 -- ---- a record
 
-same_up : (prog x : ℕ) → up prog x ≡ device_up prog x
-unfolding up
-same_up prog x = refl
-
 -- a header fits the work buffer
 pub header_in_work : (prog work : ℕ) → 0 < prog → prog ≤ work → 64 ≤ work → up prog 24 ≤ work
 header_in_work prog work positive unit least = elim (cases_lt prog 24) [
@@ -248,80 +216,63 @@ module _ (s : FlashState) (valid : IsValid s.geometry) (place n : ℕ) (can : Ca
         place_aligned = can.aligned;
         length_aligned = up-multiple s.geometry.prog 24;
         at_least = omega (arith, unit_fits s.geometry.prog 0 (up s.geometry.prog 24) (zero-mod s.geometry.prog) (up-multiple s.geometry.prog 24) some);
-        at_most = omega (arith, valid.header_fits, same_up s.geometry.prog 24);
+        at_most = omega (arith, valid.header_fits);
         inside = omega (arith, can.inside);
         erased = λ image told i from to. can.erased image told i from (omega (arith, to));
       }
 
-failed_weakened : {new : FlashState} {left : List ℕ} {R : Option DeviceCall → List ℕ → Type 0} (S : Option DeviceCall → List ℕ → Type 0) → ((call : Option DeviceCall) (c : List ℕ) → R call c → S call c) → FailedInside new R left → FailedInside new S left
-failed_weakened {new} {left} S implies inside = record {
-  call = inside.call;
-  before = implies _ _ inside.before;
-  after = implies _ _ inside.after;
-  inside = implies _ _ inside.inside;
-  told = λ tells. ⊎_elim (λ this. inl this) (λ same. inr (implies None left same)) (inside.told tells);
-}
+-- a whole payload was written
+abbrev pub HasPayload : FlashState → FlashState → ℕ → List ℕ → Type 0
+HasPayload old mid behind payload = ForSome old.image (λ image. mid.image ≡ Some (put image behind payload))
 
-module _ {old new : FlashState} {place behind : ℕ} {header payload : List ℕ} (at : behind ≡ place + length header) where
-  -- a payload that failed
-  pub record_failed : {T U E : Type 0} (fault : E) (result : Result U E) → IsErr result → WritesWithin {T = T} {E = E} old new behind payload (Err fault) → WritesRecord old new place header payload result
-  record_failed fault (Ok x) is writes = absurd (false≢true is)
-  record_failed fault (Err e) is writes =
-      let inl_at : (image : List ℕ) (call : Option DeviceCall) (c : List ℕ) → Within behind (length payload) image call c → IsPayloadFirst image place header payload call c =
-      λ image call c within. inl (subst (λ (p : ℕ). Torn p (length payload) image c) at within) in
-      record {
-        kept = writes.kept;
-        steady = λ steady. tt;
-        sound = λ sound. absurd (false≢true (writes.sound sound));
-        written = λ image told. tt;
-        torn_stands = tt;
-        moments = λ image told. weakened (IsPayloadFirst image place header payload) (inl_at image) (writes.moments image told);
-        failed = λ image told left stands. failed_weakened (IsPayloadFirst image place header payload) (inl_at image) (writes.failed image told left stands);
-      }
+module _ {old mid : FlashState} (lawful : IsLawful old) (kept : Keeps old mid) (payload : List ℕ) where
+  -- behind a whole payload the header's range is still erased
+  pub header_after : (valid : IsValid old.geometry) → (place : ℕ) → (can : CanWrite old place (up old.geometry.prog 24 + length payload)) → HasPayload old mid (place + up old.geometry.prog 24) payload → CanProgram mid place (up old.geometry.prog 24)
+  header_after valid place can written =
+      let behind : ℕ = place + up old.geometry.prog 24 in
+      let of_old = can_header old valid place (length payload) can in
+      CanProgram-kept kept (λ image told.
+      let was = told_before kept told in
+      let fits : behind + length payload ≤ length was.0 = omega (arith, can.inside, lawful.sized was.0 was.1) in
+      let is : put was.0 behind payload ≡ image = some_is (put was.0 behind payload) image (sym (written was.0 was.1) ∙ told) in
+      subst (λ (l : List ℕ). IsErased l place (up old.geometry.prog 24)) is
+      (IsErased-Torn behind (length payload) was.0 (put was.0 behind payload) place (up old.geometry.prog 24)
+      (Torn-put was.0 behind payload fits) (inl (omega arith)) (of_old.erased was.0 was.1))) of_old
 
--- behind a whole payload the header's range is still erased
-pub header_after : {T : Type 0} {old mid : FlashState} {x : T} (payload : List ℕ) → IsLawful old → (valid : IsValid old.geometry) → (place : ℕ) → (can : CanWrite old place (up old.geometry.prog 24 + length payload)) → WritesWithin {E = FlashFault} old mid (place + up old.geometry.prog 24) payload (Ok x) → CanProgram mid place (up old.geometry.prog 24)
-header_after {T} {old} {mid} {x} payload lawful valid place can first =
-    let behind : ℕ = place + up old.geometry.prog 24 in
-    let of_old = can_header old valid place (length payload) can in
-    CanProgram-kept first.kept (λ image told.
-    let was = told_before first.kept told in
-    let fits : behind + length payload ≤ length was.0 = omega (arith, can.inside, lawful.sized was.0 was.1) in
-    let is : put was.0 behind payload ≡ image = some_is (put was.0 behind payload) image (sym (first.written was.0 was.1) ∙ told) in
-    subst (λ (l : List ℕ). IsErased l place (up old.geometry.prog 24)) is
-    (IsErased-Torn behind (length payload) was.0 (put was.0 behind payload) place (up old.geometry.prog 24)
-    (Torn-put was.0 behind payload fits) (inl (omega arith)) (of_old.erased was.0 was.1))) of_old
+-- a payload that failed
+pub record_failed : {old new : FlashState} (prog place behind : ℕ) (header payload : List ℕ) → behind ≡ place + length header → RunsBy old new (Ascends prog behind payload) WriteFailed → RunsBy old new (WritesRecord prog place header payload) WriteFailed
+record_failed prog place behind header payload at runs =
+    runs_weakened (WritesRecord prog place header payload)
+    (λ image told call c moment. inl (subst (λ (p : ℕ). Ascends prog p payload image call c) at moment)) runs
 
-module _ {T U : Type 0} {old mid new : FlashState} {place : ℕ} {header payload : List ℕ} {x : T} (lawful : IsLawful old) (inside : place + length header + length payload ≤ size_of old.geometry) (first : WritesWithin {E = FlashFault} old mid (place + length header) payload (Ok x)) (result : Result U FlashFault) (wrote : Writes mid new place header result) where
+module _ {T : Type 0} {old mid new : FlashState} (prog place : ℕ) (header payload : List ℕ) (lawful : IsLawful mid) (inside : place + length header + length payload ≤ size_of old.geometry) where
   -- a whole payload, and then the header's program
-  pub record_more : WritesRecord old new place header payload result
-  record_more =
-      let behind : ℕ = place + length header in
-      record {
-        kept = Keeps-trans first.kept wrote.kept;
-        steady = λ steady. wrote.steady (first.steady steady);
-        sound = λ sound. wrote.sound (first.kept.sound sound);
-        written = λ image told. on_ok_weaker result
-            (λ is. is ∙ ap Some (put-before image place header payload (omega (arith, inside, lawful.sized image told))))
-            (wrote.written (put image behind payload) (first.written image told));
-        torn_stands = on_ok_weaker result (λ same. same ∙ first.torn_stands) wrote.torn_stands;
-        moments = λ image told. one_more
-            (weakened (IsPayloadFirst image place header payload) (λ call c within. inl within) (first.moments image told))
-            wrote (first.written image told) (λ call c moment. inr moment.0);
-        failed = λ image told.
-            let fits : behind + length payload ≤ length image = omega (arith, inside, lawful.sized image told) in
-            let long = length-put image behind payload fits in
-            failed_inside (IsPayloadFirst image place header payload) result wrote (first.written image told)
-            (omega (arith, fits, long)) (inl (Torn-put image behind payload fits)) (λ call c moment. inr moment);
-      }
+  pub record_runs : RunsBy old mid (Ascends prog (place + length header) payload) Done → HasPayload old mid (place + length header) payload → (result : Result T FlashFault) → Writes mid new place header result
+      → RunsBy old new (WritesRecord prog place header payload) (ended result)
+  record_runs first written result wrote =
+      runs_more result
+      (runs_weakened (WritesRecord prog place header payload) (λ image told call c moment. inl moment) first) wrote
+      (λ now told. omega (arith, inside, lawful.sized now told, ap size_of first.kept.geometry))
+      (λ image now told mid_told was call c moment. inr
+      (subst (λ (l : List ℕ). IsMomentWithin l place header call c) (some_is now (payload_put image place header payload) (sym mid_told ∙ written image told)) moment))
+
+-- then the record stands
+pub record_put : {T : Type 0} (old mid new : FlashState) (prog place flags : ℕ) (key value : List ℕ) → IsLawful old
+    → place + length (record_header prog flags key value) + length (record_payload prog key value) ≤ size_of old.geometry → HasPayload old mid (place + length (record_header prog flags key value)) (record_payload prog key value)
+    → (result : Result T FlashFault) → Writes mid new place (record_header prog flags key value) result
+    → OnImage old.image result (λ image. new.image ≡ Some (put image place (record_bytes prog flags key value)))
+unfolding record_bytes
+record_put old mid new prog place flags key value lawful inside written result wrote image told = on_ok_weaker result
+    (λ is. is ∙ ap Some (put-before image place (record_header prog flags key value) (record_payload prog key value) (omega (arith, inside, lawful.sized image told))))
+    (wrote.written (put image (place + length (record_header prog flags key value)) (record_payload prog key value)) (written image told))
 
 -- an area has room for a master record
 pub master_inside : (g : Geometry) (area : ℕ) → IsValid g → IsArea g area → area + master_size g.prog ≤ size_of g
 master_inside g area valid is_area =
-    let fits : master_size g.prog ≤ area_size g = omega (arith, valid.master_fits, same_up g.prog 24, same_up g.prog 12) in
+    let fits : master_size g.prog ≤ area_size g = omega (arith, valid.master_fits) in
     ⊎_elim (λ first. omega (arith, first, fits, size-areas g)) (λ second. omega (arith, second, fits, size-areas g)) is_area
 
-pub can_write_master : (s : FlashState) (area : ℕ) → IsValid s.geometry → IsArea s.geometry area → IfTold s.image (λ image. IsErased image area (master_size s.geometry.prog)) → CanWrite s area (master_size s.geometry.prog)
+pub can_write_master : (s : FlashState) (area : ℕ) → IsValid s.geometry → IsArea s.geometry area → ForSome s.image (λ image. IsErased image area (master_size s.geometry.prog)) → CanWrite s area (master_size s.geometry.prog)
 can_write_master s area valid is_area erased =
     let prog : ℕ = s.geometry.prog in
     record {

@@ -18,7 +18,7 @@ pub record IsHeader (flags key_size value_size : ℕ) : Type 0 where
   pub kind : (flags ≡ 0) ⊎ (flags ≡ 1) ⊎ (flags ≡ remove_flags)
   pub key_least : 1 ≤ key_size
   pub key_most : key_size ≤ 128
-  pub value_most : value_size ≤ 65572
+  pub value_most : value_size ≤ 65592
   pub remove_is_empty : flags ≡ remove_flags → value_size ≡ 0
 
 -- the sizes and flags of a header that was read

@@ -1,5 +1,9 @@
+pub mod Chance
+pub mod Cuts
+pub mod Endings
 pub mod Header
 pub mod Log
+pub mod Lookup
 pub mod Mounts
 pub mod Reading
 pub mod Record

@@ -4,8 +4,8 @@ use Rattle.std.specs.FinMap as map
 use Rattle.flash_core.specs.Images.{part}
 use Rattle.kv_model.specs.FlaggedMap.{FlaggedMap}
 use Rattle.kv_model.specs.Flags.{remove_flags}
-use Rattle.kv_model.specs.History.{Write}
-use Rattle.kv_model.specs.Sizes.{record_size}
+use Rattle.kv_model.specs.Write.{Write}
+use Rattle.base_core.specs.Sizes.{record_size}
 use Rattle.record_core.specs.Record.{IsRecord, record_bytes}
 
 -- how many bytes a record takes
@@ -30,15 +30,3 @@ pub record AreAllRecords (prog : ℕ) (image : List ℕ) (place limit end : ℕ)
   pub each : AreRecords prog image place end records
   pub inside : end ≤ limit
   pub no_more : (r : Write) → IsRecordAt prog image end r → limit < end + extent prog r
-
--- a record takes its key out, or gives it its flags and value
-abbrev pub applied : Write → FlaggedMap → FlaggedMap
-applied r m = if r.flags == remove_flags then map.remove m r.key else map.insert m r.key (record { flags = r.flags; bytes = r.value })
-
-abbrev pub map_after : FlaggedMap → List Write → FlaggedMap
-map_after m [] = m
-map_after m (r ∷ rs) = map_after (applied r m) rs
-
--- the map that records stand for, the last of a key deciding
-abbrev pub map_of : List Write → FlaggedMap
-map_of records = map_after map.empty records

@@ -4,10 +4,10 @@ use Rattle.flash_core.specs.declared.geometry.Geometry.{Geometry}
 use Rattle.flash_core.specs.Images.{part}
 use Rattle.flash_core.specs.Sizes.{area_size}
 use Rattle.kv_model.specs.FlaggedMap.{FlaggedMap}
-use Rattle.kv_model.specs.History.{Write}
-use Rattle.kv_model.specs.Sizes.{master_size}
+use Rattle.kv_model.specs.Write.{Write, map_of}
+use Rattle.base_core.specs.Sizes.{master_size}
 use Rattle.record_core.specs.Record.{IsMaster, master_bytes}
-use Rattle.record_core.specs.Log.{AreAllRecords, extent, map_of, spelling_of}
+use Rattle.record_core.specs.Log.{AreAllRecords, extent, spelling_of}
 
 -- the version of the master record that begins the area at this place, or none where none does
 abbrev pub MasterAt : ℕ → List ℕ → ℕ → Option ℕ → Type 0
@@ -62,7 +62,11 @@ abbrev pub reads_of : Geometry → Contents → List (ℕ × List ℕ)
 reads_of g contents = master_reads g.prog 0 contents.first ++ master_reads g.prog (area_size g) contents.second
     ++ active_reads g (active_area contents.first contents.second) contents.records
 
--- each of these stands at its place
+-- these bytes stand at their place
+abbrev pub StandsIn : List ℕ → ℕ × List ℕ → Type 0
+StandsIn image read = part image read.0 (length read.1) ≡ read.1
+
+-- each of these does
 abbrev pub Stand : List ℕ → List (ℕ × List ℕ) → Type 0
 Stand image [] = Unit {0}
-Stand image (read ∷ reads) = (part image read.0 (length read.1) ≡ read.1) × Stand image reads
+Stand image (read ∷ reads) = StandsIn image read × Stand image reads

@@ -1,13 +1,15 @@
 -- What is read of records on a device.
-use Rattle.std.specs.Prelude.{◌≡◌, ℕ, ◌+◌, ◌-◌, ◌<◌, ◌≤◌, List, ◌++◌, length, replicate, Option, Some, None, Result, IsOk, IfErr}
-use Rattle.flash_core.specs.Calls.{OnlyReads, Rose}
+use Rattle.std.specs.Prelude.{◌≡◌, ℕ, ◌+◌, ◌-◌, ◌<◌, ◌≤◌, List, ◌++◌, length, replicate, IsTrue, Option, Some, None, Result, IsOk, IfErr}
+use Rattle.base_core.specs.Counts.{Rose}
+use Rattle.flash_core.specs.Calls.{OnlyReads}
 use Rattle.flash_core.specs.Images.{part}
 use Rattle.flash_core.specs.State.{FlashState}
 use Rattle.kv_model.specs.declared.error.KvError.{KvError}
 use Rattle.kv_model.specs.declared.error.KvError.TheVariants.{ReadFault}
 use Rattle.kv_model.specs.Crc.{crc_of}
-use Rattle.kv_model.specs.History.{Write}
-use Rattle.kv_model.specs.Sizes.{up, record_size}
+use Rattle.kv_model.specs.Write.{Write}
+use Rattle.base_core.specs.Units.{up}
+use Rattle.base_core.specs.Sizes.{record_size}
 use Rattle.record_core.specs.declared.header.Header.{Header}
 use Rattle.record_core.specs.Header.{IsValid, header_front}
 use Rattle.record_core.specs.Log.{IsRecordAt, extent}
@@ -16,7 +18,7 @@ use Rattle.record_core.specs.Record.{header_of}
 -- What a call leaves that only reads the device, and that nothing but a failed read stops.
 pub record HasRead {T : Type 0} (old new : FlashState) (result : Result T KvError) : Type 0 where
   pub kept : OnlyReads old new
-  pub steady : old.steady → IsOk result
+  pub steady : IsTrue old.steady → IsOk result
   pub cause : IfErr result (λ e. (e ≡ ReadFault) × Rose old.read_faults new.read_faults)
 
 -- A header that a record may have which stands at this place and ends at or before this end, and its key's size.

@@ -3,7 +3,7 @@ use Rattle.std.specs.Prelude.{◌≡◌, ℕ, ◌<◌, ◌^◌, ◌-◌, List, �
 use Rattle.std.specs.Int.{w16, w32, to_le_bytes}
 use Rattle.kv_model.specs.Keys.{is_key, master_key}
 use Rattle.kv_model.specs.Crc.{crc_of}
-use Rattle.kv_model.specs.Sizes.{up}
+use Rattle.base_core.specs.Units.{up}
 use Rattle.record_core.specs.declared.header.Header.{Header}
 use Rattle.record_core.specs.Header.{IsHeader, header_front, header_bytes}
 

@@ -1,7 +1,9 @@
 //! The reflected CRC of 32 bits, a byte at a time by a table.
-ghost use Rattle.std.specs.Prelude.{◌≡◌, map};
+ghost use Rattle.std.specs.Prelude.{◌≡◌, ◌≤◌, map};
 ghost use Rattle.std.specs.List.{range_with_len};
-ghost use Rattle.kv_model.specs.Crc.{shifted_times, crc_step, crc_from};
+ghost use Rattle.kv_model.specs.Crc.{shifted_times, crc_step, crc_from, key_hash};
+
+use kv_model::Key;
 
 // What eight shifts make of each byte.
 static SHIFTED_BYTES: [u32; 256] = [
@@ -283,6 +285,9 @@ fn after_byte(crc: u32, byte: u8) -> u32
     shifted_byte((mixed & 0xff) as u8) ^ (mixed >> 8)
 }
 
+/// What a record's CRC starts at.
+pub const CRC_START: u32 = 0xFFFF_FFFF;
+
 /// The CRC of the bytes, going on from `start`: the reflected one of 32 bits with the polynomial 0xEDB88320, with no
 /// exclusive-or at the end. A record's CRC starts at 0xFFFF_FFFF, and a list in pieces goes on from the CRC of the
 /// piece before.
@@ -294,4 +299,13 @@ pub fn crc(start: u32, bytes: &[u8]) -> u32
         crc = after_byte(crc, *byte);
     }
     crc
+}
+
+/// The low bits of the key's CRC, at most 32 of them.
+pub fn hash_of(key: &Key, hash_bits: u8) -> u32
+    requires { hash_bits ≤ 32 }
+    ensures { result ≡ key_hash hash_bits key.now }
+{
+    let sum = u64::from(crc(CRC_START, key.as_slice()));
+    (sum % (1 << hash_bits)) as u32
 }

@@ -1,25 +1,32 @@
 //! The header of a record.
 ghost use Rattle.std.specs.Prelude.{◌≡◌, ◌↔◌, ℕ, ◌+◌, ◌%◌, ◌<◌, ◌≤◌, ◌^◌, length, IsTrue, IsSome, IfSome, Some, slice_range};
 ghost use Rattle.std.specs.Int.{w16, w32, to_le_bytes};
-ghost use Rattle.record_core.specs.Header.{header_bytes, HasFields, HasForm, IsHeader, IsValid};
+ghost use Rattle.kv_model.specs.Crc.{crc_of};
+ghost use Rattle.record_core.specs.Header.{header_bytes, header_front, HasFields, HasForm, IsHeader, IsValid};
 ghost use Rattle.record_core.specs.declared.header.Header.{Header};
 
 use byteorder::{ByteOrder, LittleEndian};
+use crate::checksum::{CRC_START, crc};
 use kv_model::Key;
 
 const MAGIC: &[u8; 4] = b"KVR1";
 
-const HEADER_SIZE: u16 = 24;
+/// How many bytes a header has, without its padding.
+pub const HEADER_SIZE: u32 = 24;
+
+// How much of a header goes into the CRC.
+const FRONT_SIZE: usize = 20;
 
 const REVISION: u16 = 1;
 
 const MAX_KEY_SIZE: u16 = 128;
 
-const MAX_VALUE_SIZE: u32 = 65_572;
+const MAX_VALUE_SIZE: u32 = 65_592;
 
 const WRITE_ONCE: u32 = 1;
 
-const REMOVE: u32 = 1 << 31;
+/// The flags of a remove.
+pub const REMOVE: u32 = 1 << 31;
 
 /// What a header says beside what all headers have.
 #[derive(Clone, Copy, Debug, PartialEq, Eq)]
@@ -36,7 +43,7 @@ pub struct Header {
 
 impl Header {
     /// Whether the sizes and flags are those that a header may have: a key of 1 to 128 bytes, a value of at most
-    /// 65,572, and none in a remove.
+    /// 65,592, and none in a remove.
     pub fn is_valid(&self) -> bool
         ensures { IsTrue result ↔ IsValid self.now }
     {
@@ -54,7 +61,7 @@ impl Header {
     {
         let mut out = [0u8; 24];
         out[..4].copy_from_slice(MAGIC);
-        LittleEndian::write_u16(&mut out[4..], HEADER_SIZE);
+        LittleEndian::write_u16(&mut out[4..], HEADER_SIZE as u16);
         LittleEndian::write_u16(&mut out[6..], REVISION);
         LittleEndian::write_u32(&mut out[8..], self.flags);
         LittleEndian::write_u16(&mut out[12..], self.key_size);
@@ -82,6 +89,13 @@ fn u32_at(bytes: &[u8; 24], at: usize) -> u32
     u32::from_le_bytes([bytes[at], bytes[at + 1], bytes[at + 2], bytes[at + 3]])
 }
 
+/// The CRC of what of a header goes into it, which the key and then the value follow.
+pub fn crc_of_front(header: &Header) -> u32
+    ensures { result ≡ crc_of (header_front header.now.flags header.now.key_size header.now.value_size) }
+{
+    crc(CRC_START, &header.to_bytes()[..FRONT_SIZE])
+}
+
 /// Writes the header of a record of this key and of a value of `value_size` bytes, with the flags 0, 1 (write-once) or
 /// 2^31 (a remove, whose value is empty). `crc` is that of the header's first 20 bytes, the key and the value.
 pub fn write_header(out: &mut [u8; 24], key: &Key, value_size: u32, flags: u32, crc: u32)
@@ -103,7 +117,7 @@ fn has_form(bytes: &[u8; 24]) -> bool
     ensures { IsTrue result ↔ HasForm bytes.now }
 {
     bytes[..4] == MAGIC[..]
-        && u16_at(bytes, 4) == HEADER_SIZE
+        && u32::from(u16_at(bytes, 4)) == HEADER_SIZE
         && u16_at(bytes, 6) == REVISION
         && u16_at(bytes, 14) == 0
 }

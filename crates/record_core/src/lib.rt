@@ -10,20 +10,27 @@
 #![tactic(auto)]
 
 mod checksum;
+mod cuts;
 mod header;
 mod laws;
+mod lookup;
 mod payload;
 mod range;
 mod reader;
 mod size;
 mod writer;
 
-pub use checksum::crc;
-pub use header::{Header, read_header, write_header};
+pub use checksum::{CRC_START, crc, hash_of};
+pub use cuts::{
+    chance_or_first_break, contents_survive_elsewhere, every_image_mounts,
+    torn_header_is_whole_or_unseen, torn_master_is_whole_or_unseen,
+};
+pub use header::{HEADER_SIZE, Header, REMOVE, crc_of_front, read_header, write_header};
 pub use laws::{
     last_record_decides, mounts_once, readers_have_one_answer, record_example,
     records_are_unambiguous, records_go_on, records_stand_where_programmed,
 };
+pub use lookup::{broken_header, read_header_at, read_key_at};
 pub use range::{crc_of_piece, crc_of_range, read_part};
 pub use reader::{read_master, read_record};
 pub use size::{padded_size, size_of_record};

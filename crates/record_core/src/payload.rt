@@ -1,7 +1,7 @@
 //! The payload of a record on its way to a device, a piece at a time.
 ghost use Rattle.std.specs.Prelude.{◌≡◌, ◌⊎◌, ◌+◌, ◌-◌, ◌<◌, ◌≤◌, ◌^◌, ℕ, length, slice_index};
 ghost use Rattle.flash_core.specs.Images.{part, put};
-ghost use Rattle.kv_model.specs.Sizes.{up};
+ghost use Rattle.base_core.specs.Units.{up};
 ghost use Rattle.record_core.specs.Record.{record_payload};
 
 const ERASED: u8 = 0xFF;
@@ -30,7 +30,7 @@ fn overlay(units: &mut [u8], from: usize, start: usize, bytes: &[u8])
 
 /// Fills `units` with the bytes of the payload of this key and value from `from` on.
 pub(crate) fn fill_payload(units: &mut [u8], from: usize, key: &[u8], value: &[u8])
-    requires sizes { length key.now + length value.now ≤ 65700 }
+    requires sizes { length key.now + length value.now ≤ 65720 }
     requires limits { from + length units.old < 2 ^ 31 }
     ensures { (prog : ℕ) → 1 ≤ prog → from + length units.old ≤ up prog (length key.now + length value.now)
         → units.new ≡ part (record_payload prog key.now value.now) from (length units.old) }

@@ -4,6 +4,7 @@ ghost use Rattle.flash_core.specs.Images.{part};
 ghost use Rattle.flash_core.specs.Sizes.{size_of};
 ghost use Rattle.flash_core.specs.State.{IfTold};
 ghost use Rattle.kv_model.specs.Crc.{crc_from};
+ghost use Rattle.record_core.specs.Lookup.{IsCrcOf};
 ghost use Rattle.record_core.specs.Reading.{HasRead};
 
 use crate::crc;
@@ -36,14 +37,14 @@ pub fn crc_of_piece<F: Flash>(
     requires { place + length piece.old ≤ size_of (F.state flash.old).geometry }
     ensures reads { HasRead (F.state flash.old) (F.state flash.new) result }
     ensures bytes { IfTold (F.state flash.old).image (λ image. OnOk result (piece.new ≡ part image place (length piece.old))) }
-    ensures sum { IfTold (F.state flash.old).image (λ image. IfOk result (λ sum. sum ≡ crc_from start (part image place (length piece.old)))) }
+    ensures sum { IfOk result (λ sum. sum ≡ crc_from start piece.new) }
 {
     read_part(flash, place, piece)?;
     Ok(crc(start, piece))
 }
 
-/// The CRC of `size` bytes from `place` on, going on from `start`, read in pieces that `work` has room for.
-/// `ReadFault` comes only where the device's count of read faults rose.
+/// The CRC of `size` bytes from `place` on, going on from `start`, read in pieces that `work` has room
+/// for, each once. `ReadFault` comes only where the device's count of read faults rose.
 pub fn crc_of_range<F: Flash>(
     flash: &mut F,
     place: u32,
@@ -55,7 +56,7 @@ pub fn crc_of_range<F: Flash>(
     requires limit { size_of (F.state flash.old).geometry ≤ 16777216 }
     requires some { 1 ≤ length work.old }
     ensures reads { HasRead (F.state flash.old) (F.state flash.new) result }
-    ensures sum { IfTold (F.state flash.old).image (λ image. IfOk result (λ sum. sum ≡ crc_from start (part image place size))) }
+    ensures sum { IfOk result (IsCrcOf (F.state flash.old) place size start) }
 {
     let most = work.len().min(size as usize) as u32;
     let mut sum = start;

@@ -6,7 +6,8 @@ ghost use Rattle.flash_core.specs.Sizes.{IsValid, size_of};
 ghost use Rattle.flash_core.specs.State.{IfTold};
 ghost use Rattle.kv_model.specs.Crc.{crc_of};
 ghost use Rattle.kv_model.specs.Keys.{is_key, master_key};
-ghost use Rattle.kv_model.specs.Sizes.{up, record_size};
+ghost use Rattle.base_core.specs.Units.{up};
+ghost use Rattle.base_core.specs.Sizes.{record_size};
 ghost use Rattle.record_core.specs.declared.header.Header.{Header};
 ghost use Rattle.record_core.specs.Header.{IsHeader, header_bytes, header_front};
 ghost use Rattle.record_core.specs.Mounts.{MasterAt};
@@ -15,10 +16,8 @@ ghost use Rattle.record_core.specs.Record.{header_of, master_value};
 ghost use Rattle.record_core.specs.Written.{IsArea};
 
 use crate::range::{crc_of_range, is_padding, read_part};
-use crate::writer::{
-    CRC_START, FRONT_SIZE, HEADER_SIZE, MASTER_KEY, Payload, header_for, value_of_master,
-};
-use crate::{Header, crc, padded_size, read_header, size_of_record};
+use crate::writer::{MASTER_KEY, Payload, header_for, value_of_master};
+use crate::{HEADER_SIZE, Header, crc, crc_of_front, padded_size, read_header, size_of_record};
 use flash_core::Flash;
 use kv_model::{Key, KvError};
 
@@ -70,7 +69,7 @@ fn is_padded<F: Flash>(
 }
 
 // The header that the bytes spell, where its record takes at most `room` bytes.
-fn header_within(bytes: &[u8; 24], prog: u32, room: u32) -> Option<Header>
+pub(crate) fn header_within(bytes: &[u8; 24], prog: u32, room: u32) -> Option<Header>
     requires prog_is_power { IsTrue (is_power_of_two prog) }
     requires prog_most { prog ≤ 4096 }
     ensures valid { IfSome result (λ header. IsHeader header.flags header.key_size header.value_size) }
@@ -140,8 +139,7 @@ fn crc_of_record<F: Flash>(
         sum ≡ crc_of (header_front header.now.flags header.now.key_size header.now.value_size ++ key.now
         ++ part image place header.now.value_size))) }
 {
-    let front = crc(CRC_START, &header.to_bytes()[..FRONT_SIZE]);
-    let before = crc(front, key.as_slice());
+    let before = crc(crc_of_front(header), key.as_slice());
     crc_of_range(flash, place, header.value_size, before, work)
 }
 

@@ -1,33 +1,31 @@
 //! Records written to a device.
 ghost use Rattle.std.specs.Prelude.{◌≡◌, ◌+◌, ◌-◌, ◌≤◌, ◌++◌, replicate, length, IfErr, OnOk, Some};
-ghost use Rattle.flash_core.specs.Calls.{CanProgram, Rose, Writes};
+ghost use Rattle.flash_core.specs.Calls.{CanProgram, Writes};
 ghost use Rattle.flash_core.specs.Images.{IsErased, part, put};
 ghost use Rattle.flash_core.specs.Sizes.{IsValid};
-ghost use Rattle.flash_core.specs.State.{IfTold};
+ghost use Rattle.flash_core.specs.State.{IfTold, OnImage};
 ghost use Rattle.kv_model.specs.Keys.{master_key};
-ghost use Rattle.kv_model.specs.Sizes.{up, master_size, record_size};
+ghost use Rattle.base_core.specs.Units.{up};
+ghost use Rattle.base_core.specs.Sizes.{master_size, record_size};
 ghost use Rattle.kv_model.specs.declared.error.KvError.TheVariants.{WriteFault};
 ghost use Rattle.record_core.specs.Header.{IsHeader};
 ghost use Rattle.record_core.specs.Record.{header_of, master_bytes, master_value, padded, record_bytes, record_header, record_payload};
-ghost use Rattle.record_core.specs.Written.{CanWrite, IsArea, WritesRecord, WritesWithin};
+ghost use Rattle.record_core.specs.Endings.{kv_ended};
+ghost use Rattle.record_core.specs.Log.{spelling_of};
+ghost use Rattle.record_core.specs.Written.{AppendsRecord, Ascends, CanWrite, IsArea, master_of};
+ghost use Rattle.flash_core.specs.Runs.{RunsBy, ended};
 
 use crate::payload::fill_payload;
-use crate::{Header, crc, padded_size};
+use crate::{HEADER_SIZE, Header, crc, crc_of_front, padded_size};
 use byteorder::{ByteOrder, LittleEndian};
 use flash_core::{Flash, FlashFault};
 use kv_model::{Key, KvError};
 
 const ERASED: u8 = 0xFF;
 
-pub(crate) const HEADER_SIZE: u32 = 24;
-// How much of the header goes into the CRC.
-pub(crate) const FRONT_SIZE: usize = 20;
-
 pub(crate) const MASTER_KEY: &[u8] = b"TDBS";
 
 const MASTER_REVISION: u16 = 1;
-
-pub(crate) const CRC_START: u32 = 0xFFFF_FFFF;
 
 // The bytes, and behind them bytes 0xFF.
 fn fill_padded(units: &mut [u8], bytes: &[u8])
@@ -75,7 +73,7 @@ fn program_piece<F: Flash>(
     work: &mut [u8],
 ) -> Result<(), FlashFault>
     requires valid { IsValid (F.state flash.old).geometry }
-    requires limits { length payload.now.key.now + length payload.now.value.now ≤ 65700 }
+    requires limits { length payload.now.key.now + length payload.now.value.now ≤ 65720 }
     requires within { from + length work.old ≤ up (F.state flash.old).geometry.prog (length payload.now.key.now + length payload.now.value.now) }
     requires can { CanProgram (F.state flash.old) (place + from) (length work.old) }
     ensures { Writes (F.state flash.old) (F.state flash.new) (place + from)
@@ -93,12 +91,17 @@ fn program_payload<F: Flash>(
     work: &mut [u8],
 ) -> Result<(), FlashFault>
     requires valid { IsValid (F.state flash.old).geometry }
-    requires limits { length payload.now.key.now + length payload.now.value.now ≤ 65700 }
+    requires limits { length payload.now.key.now + length payload.now.value.now ≤ 65720 }
     requires unit { (F.state flash.old).geometry.prog ≤ length work.old }
     requires can { CanWrite (F.state flash.old) place (up (F.state flash.old).geometry.prog (length payload.now.key.now + length payload.now.value.now)) }
-    ensures writes { WritesWithin (F.state flash.old) (F.state flash.new) place
-        (record_payload (F.state flash.old).geometry.prog payload.now.key.now payload.now.value.now) result }
-    ensures cause { IfErr result (λ fault. (fault ≡ FlashFault.Write) × Rose (F.state flash.old).write_faults (F.state flash.new).write_faults) }
+    ensures runs { RunsBy (F.state flash.old) (F.state flash.new)
+        (Ascends (F.state flash.old).geometry.prog place
+        (record_payload (F.state flash.old).geometry.prog payload.now.key.now payload.now.value.now))
+        (ended result) }
+    ensures fault { IfErr result (λ fault. fault ≡ FlashFault.Write) }
+    ensures written { OnImage (F.state flash.old).image result (λ image. (F.state flash.new).image
+        ≡ Some (put image place (record_payload (F.state flash.old).geometry.prog
+        payload.now.key.now payload.now.value.now))) }
 {
     let geometry = flash.geometry();
     let size = padded_size(
@@ -119,7 +122,7 @@ fn program_payload<F: Flash>(
 // The header of a record of this payload.
 pub(crate) fn header_for(flags: u32, payload: &Payload) -> Header
     requires key { length payload.now.key.now ≤ 128 }
-    requires value { length payload.now.value.now ≤ 65572 }
+    requires value { length payload.now.value.now ≤ 65592 }
     ensures { result ≡ header_of flags payload.now.key.now payload.now.value.now }
 {
     let header = Header {
@@ -128,7 +131,7 @@ pub(crate) fn header_for(flags: u32, payload: &Payload) -> Header
         value_size: payload.value.len() as u32,
         crc: 0,
     };
-    let front = crc(CRC_START, &header.to_bytes()[..FRONT_SIZE]);
+    let front = crc_of_front(&header);
     Header {
         crc: crc(crc(front, payload.key), payload.value),
         ..header
@@ -149,10 +152,14 @@ fn program_record<F: Flash>(
     requires least { 64 ≤ length work.old }
     requires can { CanWrite (F.state flash.old) place
         (record_size (F.state flash.old).geometry.prog (length payload.now.key.now) (length payload.now.value.now)) }
-    ensures writes { WritesRecord (F.state flash.old) (F.state flash.new) place
-        (record_header (F.state flash.old).geometry.prog flags payload.now.key.now payload.now.value.now)
-        (record_payload (F.state flash.old).geometry.prog payload.now.key.now payload.now.value.now) result }
-    ensures cause { IfErr result (λ fault. (fault ≡ FlashFault.Write) × Rose (F.state flash.old).write_faults (F.state flash.new).write_faults) }
+    ensures runs { RunsBy (F.state flash.old) (F.state flash.new)
+        (AppendsRecord (F.state flash.old).geometry.prog place
+        (record { flags = flags; key = payload.now.key.now; value = payload.now.value.now }))
+        (ended result) }
+    ensures fault { IfErr result (λ fault. fault ≡ FlashFault.Write) }
+    ensures written { OnImage (F.state flash.old).image result (λ image. (F.state flash.new).image
+        ≡ Some (put image place (spelling_of (F.state flash.old).geometry.prog
+        (record { flags = flags; key = payload.now.key.now; value = payload.now.value.now })))) }
 {
     let header = header_for(flags, payload).to_bytes();
     let behind = place + padded_size(flash.geometry().prog, HEADER_SIZE);
@@ -162,7 +169,7 @@ fn program_record<F: Flash>(
 
 /// Programs a record from `place` on: the key and the value in ascending place, and then the header. `WriteFault` comes
 /// only where the device's count of write faults rose. `flags` is 0, 1 (write-once) or 2^31 (a remove, whose value is
-/// empty); a value has at most 65,572 bytes, and `work` at least 64 and at least a program unit.
+/// empty); a value has at most 65,592 bytes, and `work` at least 64 and at least a program unit.
 #[tactic(auto, unfolding(crate::specs::Record::record_bytes))]
 pub fn write_record<F: Flash>(
     flash: &mut F,
@@ -179,12 +186,13 @@ pub fn write_record<F: Flash>(
     requires can { CanWrite (F.state flash.old) place
         (record_size (F.state flash.old).geometry.prog (length key.now) (length value.now)) }
 
-    ensures writes { WritesRecord (F.state flash.old) (F.state flash.new) place
-        (record_header (F.state flash.old).geometry.prog flags key.now value.now)
-        (record_payload (F.state flash.old).geometry.prog key.now value.now) result }
-    ensures written { IfTold (F.state flash.old).image (λ image.
-        OnOk result ((F.state flash.new).image ≡ Some (put image place (record_bytes (F.state flash.old).geometry.prog flags key.now value.now)))) }
-    ensures cause { IfErr result (λ e. (e ≡ WriteFault) × Rose (F.state flash.old).write_faults (F.state flash.new).write_faults) }
+    ensures runs { RunsBy (F.state flash.old) (F.state flash.new)
+        (AppendsRecord (F.state flash.old).geometry.prog place
+        (record { flags = flags; key = key.now; value = value.now })) (kv_ended result) }
+    ensures fault { IfErr result (λ e. e ≡ WriteFault) }
+    ensures written { OnImage (F.state flash.old).image result (λ image. (F.state flash.new).image
+        ≡ Some (put image place (spelling_of (F.state flash.old).geometry.prog
+        (record { flags = flags; key = key.now; value = value.now })))) }
 {
     let payload = Payload {
         key: key.as_slice(),
@@ -223,12 +231,11 @@ pub fn write_master<F: Flash>(
     requires erased { IfTold (F.state flash.old).image (λ image.
         IsErased image area (master_size (F.state flash.old).geometry.prog)) }
 
-    ensures writes { WritesRecord (F.state flash.old) (F.state flash.new) area
-        (record_header (F.state flash.old).geometry.prog 0 master_key (master_value version))
-        (record_payload (F.state flash.old).geometry.prog master_key (master_value version)) result }
-    ensures written { IfTold (F.state flash.old).image (λ image.
-        OnOk result ((F.state flash.new).image ≡ Some (put image area (master_bytes (F.state flash.old).geometry.prog version)))) }
-    ensures cause { IfErr result (λ e. (e ≡ WriteFault) × Rose (F.state flash.old).write_faults (F.state flash.new).write_faults) }
+    ensures runs { RunsBy (F.state flash.old) (F.state flash.new)
+        (AppendsRecord (F.state flash.old).geometry.prog area (master_of version)) (kv_ended result) }
+    ensures fault { IfErr result (λ e. e ≡ WriteFault) }
+    ensures written { OnImage (F.state flash.old).image result (λ image. (F.state flash.new).image
+        ≡ Some (put image area (master_bytes (F.state flash.old).geometry.prog version))) }
 {
     let payload = Payload {
         key: MASTER_KEY,

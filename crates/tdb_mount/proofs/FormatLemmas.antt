@@ -9,14 +9,15 @@ use Rattle.flash_core.specs.Calls.{CanErase, Keeps, Writes, erased_unit}
 use Rattle.flash_core.specs.Images.{IsErased, put, Torn}
 use Rattle.flash_core.specs.Sizes.{IsValid, area_size, size_of}
 use Rattle.flash_core.specs.State.{FlashState, IfTold, IsLawful}
-use Rattle.flash_core.specs.Up.{IsMultipleOf}
+use Rattle.base_core.specs.Units.{IsMultipleOf}
 use Rattle.flash_core.proofs.GeometryLaws.{size-areas}
 use Rattle.flash_core.proofs.ImageLaws.{IsErased-put, IsErased-within, length-put, put-append, Torn-put, Torn-trans, Torn-widen}
 use Rattle.flash_core.proofs.KeptLaws.{told_before}
-use Rattle.flash_core.proofs.Units.{IsMultipleOf-mul}
-use Rattle.kv_model.specs.History.{Write}
+use Rattle.base_core.proofs.UnitLemmas.{IsMultipleOf-mul}
+use Rattle.kv_model.specs.Write.{Write}
 use Rattle.kv_model.specs.Keys.{master_key}
-use Rattle.kv_model.specs.Sizes.{up, master_size}
+use Rattle.base_core.specs.Units.{up}
+use Rattle.base_core.specs.Sizes.{master_size}
 use Rattle.record_core.specs.Record.{master_value}
 use Rattle.tdb_mount.specs.Format.{first_erased}
 

@@ -15,9 +15,10 @@ use Rattle.std.proofs.lemmas.Slice.Eq.{bytes_eq-Decides}
 use mathlib.Core.Bool.{false≢true}
 use Rattle.flash_core.specs.Images.{part}
 use Rattle.kv_model.specs.Flags.{remove_flags}
-use Rattle.kv_model.specs.History.{Write}
+use Rattle.kv_model.specs.Write.{Write}
 use Rattle.kv_model.specs.Keys.{is_key}
-use Rattle.kv_model.specs.Sizes.{up, record_size}
+use Rattle.base_core.specs.Units.{up}
+use Rattle.base_core.specs.Sizes.{record_size}
 use Rattle.record_core.specs.declared.header.Header.{Header}
 use Rattle.record_core.specs.Header.{IsValid, HasFields, header_bytes, header_front}
 use Rattle.record_core.specs.Log.{IsRecordAt, extent}
@@ -101,7 +102,7 @@ pub is_header-valid : (header : Header) → is_header header ≡ true → IsVali
 unfolding is_header
 is_header-valid header is =
     let e = both_of _ (not (header.flags == remove_flags) || header.value_size == 0) is in
-    let d = both_of _ (nat_le header.value_size 65572) e.0 in
+    let d = both_of _ (nat_le header.value_size 65592) e.0 in
     let c = both_of _ (nat_le header.key_size 128) d.0 in
     let b = both_of _ (nat_le 1 header.key_size) c.0 in
     record {
@@ -111,7 +112,7 @@ is_header-valid header is =
           (some_of (header.flags == 0 || header.flags == 1) (header.flags == remove_flags) b.0);
       key_least = leb-true 1 header.key_size b.1;
       key_most = leb-true header.key_size 128 c.1;
-      value_most = leb-true header.value_size 65572 d.1;
+      value_most = leb-true header.value_size 65592 d.1;
       remove_is_empty = λ removes. eqb-true header.value_size 0
           (ap (λ (x : Bool). not x || header.value_size == 0) (sym (eq-eqb header.flags remove_flags removes)) ∙ e.1);
     }
@@ -132,7 +133,7 @@ valid-is_header header valid =
     valid.kind in
     let least = le-leb 1 header.key_size valid.key_least in
     let most = le-leb header.key_size 128 valid.key_most in
-    let value = le-leb header.value_size 65572 valid.value_most in
+    let value = le-leb header.value_size 65592 valid.value_most in
     let empty = empty_if (header.flags == remove_flags) header refl valid.remove_is_empty in
     λ i. kind i && least i && most i && value i && empty i
 

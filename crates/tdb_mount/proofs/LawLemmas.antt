@@ -1,6 +1,6 @@
 -- What the laws say of maps, versions, places and keys.
-use Rattle.std.proofs.Common.{◌≡◌, ℕ, ◌+◌, ◌-◌, ◌*◌, ◌%◌, ◌^◌, ◌<◌, ◌≤◌, Bool, List, [], length, inr, refl, sym, ◌∙◌, ap, subst, arith}
-use Rattle.std.specs.Prelude.{if◌then◌else◌, Option, Some, None, Ok}
+use Rattle.std.proofs.Common.{◌≡◌, ℕ, ◌+◌, ◌-◌, ◌*◌, ◌%◌, ◌^◌, ◌<◌, ◌≤◌, Bool, List, [], length, inr, refl, sym, ◌∙◌, ap, subst, arith, ◌≢◌, ◌∷◌, ◌++◌, true, false}
+use Rattle.std.specs.Prelude.{if◌then◌else◌, Option, Some, None, Ok, ◌==◌, ◌↔◌}
 use Rattle.std.proofs.lemmas.Bool.{eq-eqb, ne_eqb}
 use Rattle.flash_core.specs.declared.geometry.Geometry.{Geometry}
 use Rattle.flash_core.specs.Images.{IsErased, Torn}
@@ -8,18 +8,15 @@ use Rattle.flash_core.specs.Sizes.{IsValid, area_size, size_of}
 use Rattle.flash_core.proofs.GeometryLaws.{prog_positive, size-areas}
 use Rattle.flash_core.proofs.ImageLaws.{IsErased-Torn, IsErased-put, IsErased-within, Torn-put}
 use Rattle.kv_model.specs.FlaggedMap.{FlaggedMap}
-use Rattle.kv_model.specs.Sizes.{master_size}
-use Rattle.record_core.specs.Log.{AreAllRecords, map_of}
+use Rattle.base_core.specs.Sizes.{master_size}
+use Rattle.record_core.specs.Log.{AreAllRecords, IsRecordAt, extent}
+use Rattle.kv_model.specs.Write.{map_of, Write}
 use Rattle.record_core.specs.Mounts.{ActiveRecords, Contents, Holds, Mounts, active_area}
 use Rattle.record_core.specs.Record.{master_bytes}
 use Rattle.record_core.proofs.LogLemmas.{all_before_erased}
 use Rattle.record_core.proofs.MountLemmas.{length-master_bytes}
 use Rattle.std.specs.FinMap.{get, insert, remove}
-use Rattle.std.specs.Prelude.{◌==◌, ◌↔◌}
-use Rattle.std.proofs.Common.{◌≢◌, ◌∷◌, ◌++◌, true, false}
 use Rattle.kv_model.specs.Flags.{remove_flags}
-use Rattle.kv_model.specs.History.{Write}
-use Rattle.record_core.specs.Log.{IsRecordAt, extent}
 use Rattle.area_log.specs.declared.area.Area.{Area}
 use Rattle.area_log.specs.Areas.{end_of}
 use Rattle.area_log.specs.Listing.{Found}

@@ -10,8 +10,9 @@ use Rattle.flash_core.specs.Sizes.{IsValid, area_size, size_of}
 use Rattle.flash_core.specs.State.{FlashState, IfTold, IsLawful}
 use Rattle.flash_core.proofs.GeometryLaws.{prog_positive, size-areas}
 use Rattle.flash_core.proofs.ImageLaws.{part-Torn}
-use Rattle.flash_core.proofs.KeptLaws.{Keeps-OnlyReads, Keeps-trans, Rose-since, told_before}
-use Rattle.kv_model.specs.Sizes.{master_size}
+use Rattle.base_core.proofs.CountLemmas.{Rose-since}
+use Rattle.flash_core.proofs.KeptLaws.{Keeps-OnlyReads, Keeps-trans, told_before}
+use Rattle.base_core.specs.Sizes.{master_size}
 use Rattle.kv_model.specs.declared.error.KvError.{KvError}
 use Rattle.kv_model.specs.declared.error.KvError.TheVariants.{ReadFault, WriteFault, Memory}
 use Rattle.area_log.specs.Reading.{Visits}

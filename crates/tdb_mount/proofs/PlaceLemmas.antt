@@ -10,8 +10,8 @@ use Rattle.flash_core.specs.declared.geometry.Geometry.{Geometry}
 use Rattle.kv_model.specs.Crc.{key_hash}
 use Rattle.kv_model.specs.FlaggedMap.{FlaggedMap, Stored}
 use Rattle.kv_model.specs.Flags.{remove_flags}
-use Rattle.kv_model.specs.History.{Write}
-use Rattle.record_core.specs.Log.{AreRecords, IsRecordAt, applied, extent, map_after, map_of}
+use Rattle.kv_model.specs.Write.{Write, applied, map_after, map_of}
+use Rattle.record_core.specs.Log.{AreRecords, IsRecordAt, extent}
 use Rattle.record_core.proofs.LogLemmas.{AreRecords-forward, extent-positive, get-applied_other, get-applied_removed, get-applied_stored}
 use Rattle.area_log.specs.declared.area.Area.{Area}
 use Rattle.area_log.specs.Areas.{end_of, first_place}

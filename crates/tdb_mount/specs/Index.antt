@@ -6,7 +6,7 @@ use Rattle.std.specs.Ordering.{nat_cmp}
 use Rattle.std.specs.Cmp.Lexicographic.{slice_cmp}
 use Rattle.kv_model.specs.Flags.{remove_flags}
 use Rattle.kv_model.specs.FlaggedMap.{Stored}
-use Rattle.kv_model.specs.History.{Write}
+use Rattle.kv_model.specs.Write.{Write}
 use Rattle.record_core.specs.Log.{IsRecordAt, extent}
 use Rattle.area_log.specs.Listing.{Found}
 use Rattle.ram_table.specs.declared.table.Entry.{Entry}

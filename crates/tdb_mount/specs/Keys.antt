@@ -11,7 +11,8 @@ use Rattle.kv_model.specs.declared.error.KvError.{KvError}
 use Rattle.kv_model.specs.declared.error.KvError.TheVariants.{Corrupt}
 use Rattle.kv_model.specs.Flags.{remove_flags}
 use Rattle.kv_model.specs.Keys.{is_key}
-use Rattle.kv_model.specs.Sizes.{up, record_size}
+use Rattle.base_core.specs.Units.{up}
+use Rattle.base_core.specs.Sizes.{record_size}
 use Rattle.record_core.specs.declared.header.Header.{Header}
 use Rattle.record_core.specs.Header.{IsValid, header_bytes}
 use Rattle.area_log.specs.declared.area.Area.{Area}
@@ -39,7 +40,7 @@ fields_of bytes = record {
 unfoldable pub is_header : Header → Bool
 is_header header =
     (header.flags == 0 || header.flags == 1 || header.flags == remove_flags)
-    && nat_le 1 header.key_size && nat_le header.key_size 128 && nat_le header.value_size 65572
+    && nat_le 1 header.key_size && nat_le header.key_size 128 && nat_le header.value_size 65592
     && (not (header.flags == remove_flags) || header.value_size == 0)
 
 -- the key behind this header, where it is that of this place and its record would end at or before this end

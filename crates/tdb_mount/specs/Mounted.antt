@@ -2,11 +2,11 @@
 use Rattle.std.specs.Prelude.{◌≡◌, ◌↔◌, ℕ, ◌-◌, ◌≤◌, List, IsTrue, Some}
 use Rattle.std.specs.FinMap.{get}
 use Rattle.flash_core.specs.declared.geometry.Geometry.{Geometry}
-use Rattle.flash_core.specs.Calls.{Rose}
+use Rattle.base_core.specs.Counts.{Rose}
 use Rattle.flash_core.specs.Images.{IsErased}
 use Rattle.flash_core.specs.Sizes.{IsValid}
 use Rattle.flash_core.specs.State.{FlashState}
-use Rattle.record_core.specs.Log.{map_of}
+use Rattle.kv_model.specs.Write.{map_of}
 use Rattle.record_core.specs.Mounts.{Contents, Holds, active_area}
 use Rattle.area_log.specs.Areas.{end_of, first_place, IsEnd}
 use Rattle.area_log.specs.Listing.{listed}

@@ -1,5 +1,5 @@
 -- Why a part of a mount was refused.
-use Rattle.flash_core.specs.Calls.{Rose}
+use Rattle.base_core.specs.Counts.{Rose}
 use Rattle.flash_core.specs.State.{FlashState}
 use Rattle.kv_model.specs.declared.error.KvError.{KvError}
 use Rattle.kv_model.specs.declared.error.KvError.TheVariants as error

@@ -1,6 +1,7 @@
 //! Formatting the first area of a device.
 ghost use Rattle.std.specs.Prelude.{◌≡◌, ◌≤◌, length, IsOk, IfErr, OnOk, Some};
-ghost use Rattle.flash_core.specs.Calls.{Keeps, Rose};
+ghost use Rattle.base_core.specs.Counts.{Rose};
+ghost use Rattle.flash_core.specs.Calls.{Keeps};
 ghost use Rattle.flash_core.specs.Images.{Torn};
 ghost use Rattle.flash_core.specs.Sizes.{IsValid, area_size};
 ghost use Rattle.flash_core.specs.State.{IfTold};

@@ -5,7 +5,7 @@ ghost use Rattle.flash_core.specs.declared.geometry.Geometry.{Geometry};
 ghost use Rattle.flash_core.specs.Sizes.{IsValid, size_of};
 ghost use Rattle.kv_model.specs.FlaggedMap.{FlaggedMap};
 ghost use Rattle.kv_model.specs.Flags.{remove_flags};
-ghost use Rattle.kv_model.specs.History.{Write};
+ghost use Rattle.kv_model.specs.Write.{Write};
 ghost use Rattle.record_core.specs.Log.{IsRecordAt, extent};
 ghost use Rattle.record_core.specs.Mounts.{Mounts, active_area};
 ghost use Rattle.area_log.specs.declared.area.Area.{Area};

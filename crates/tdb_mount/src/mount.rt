@@ -1,6 +1,7 @@
 //! Mounting a device.
 ghost use Rattle.std.specs.Prelude.{◌≡◌, ◌≢◌, ◌↔◌, ◌+◌, ◌*◌, ◌≤◌, ℕ, length, IfOk, IfSome, IfErr, OnOk};
-ghost use Rattle.flash_core.specs.Calls.{Keeps, Rose};
+ghost use Rattle.base_core.specs.Counts.{Rose};
+ghost use Rattle.flash_core.specs.Calls.{Keeps};
 ghost use Rattle.flash_core.specs.Sizes.{IsValid, area_size};
 ghost use Rattle.flash_core.specs.State.{IfTold};
 ghost use Rattle.kv_model.specs.declared.error.KvError.{KvError};

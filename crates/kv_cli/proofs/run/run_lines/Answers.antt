@@ -1,7 +1,7 @@
 use Rattle.std.proofs.Common.{ℕ, ◌+◌, List, [], ◌∷◌, ◌++◌, take, length, refl, sym, subst, ◌∙◌, ap, add-one, length-append, None}
 use Rattle.std.proofs.Math.Seq.{take-suc}
 use Rattle.std.proofs.lemmas.List.{take_all}
-use Rattle.kv_model.specs.History.{writes}
+use Rattle.kv_model.specs.Writes.{writes}
 use Rattle.script_core.specs.declared.line.Line.{Line}
 use Rattle.kv_cli.specs.Runs.{HasRun}
 use Rattle.kv_cli.proofs.RunLemmas.{run_none, run_more}

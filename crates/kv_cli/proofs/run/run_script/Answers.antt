@@ -7,7 +7,7 @@ use Rattle.flash_core.specs.State.{FlashState}
 use Rattle.flash_core.specs.declared.record_flash.RecordFlash.{RecordFlash}
 use Rattle.flash_core.specs.RecordDevice.{IsMemoryOf, memory_state}
 use Rattle.kv_model.specs.FlaggedMap.{FlaggedMap}
-use Rattle.kv_model.specs.Sizes.{up}
+use Rattle.base_core.specs.Units.{up}
 use Rattle.kv_model.specs.StoreState.{fresh_state}
 use Rattle.area_log.specs.Areas.{first_place}
 use Rattle.std.specs.FinMap.{empty}

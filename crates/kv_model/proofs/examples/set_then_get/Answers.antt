@@ -1,11 +1,17 @@
 use Rattle.std.specs.Ordering.{nat_cmp}
 use Rattle.std.specs.Cmp.Lexicographic.{slice_cmp, nat_list_cmp_total}
-use Rattle.std.specs.FinMap.{get-insert, get-empty}
+use Rattle.std.specs.FinMap.{entries-insert, get-insert, get-empty}
 use Rattle.kv_model.specs.FlaggedMap.{Stored}
 use Rattle.kv_model.specs.Keys.{is_key, is_prefix, is_key_byte}
-use Rattle.kv_model.specs.Sizes.{up}
+use Rattle.base_core.specs.Units.{up}
+use Rattle.kv_model.proofs.MapLemmas.{entries-empty}
 use Rattle.kv_model.proofs.examples.set_then_get.Goals as goal
 
 pub returns : goal.returns
 unfolding is_key is_prefix is_key_byte up
-returns c = simp (get-insert {X = Stored} nat_list_cmp_total, get-empty {X = Stored} (slice_cmp nat_cmp))
+returns c = simp (
+  entries-insert {X = Stored} nat_list_cmp_total,
+  entries-empty (slice_cmp nat_cmp) Stored,
+  get-insert {X = Stored} nat_list_cmp_total,
+  get-empty {X = Stored} (slice_cmp nat_cmp),
+)

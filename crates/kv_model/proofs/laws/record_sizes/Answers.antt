@@ -1,5 +1,5 @@
 use Rattle.std.proofs.Common.{refl}
-use Rattle.kv_model.specs.Sizes.{up}
+use Rattle.base_core.specs.Units.{up}
 use Rattle.kv_model.proofs.laws.record_sizes.Goals as goal
 
 pub returns : goal.returns

@@ -1,5 +1,6 @@
 use Rattle.std.proofs.Common.{refl}
-use Rattle.record_core.proofs.LogLemmas.{map_of-append, get-applied_stored, get-applied_removed, get-applied_other}
+use Rattle.kv_model.proofs.WritesLemmas.{map_of-append}
+use Rattle.record_core.proofs.LogLemmas.{get-applied_stored, get-applied_removed, get-applied_other}
 use Rattle.record_core.proofs.laws.last_record_decides.Goals as goal
 
 pub returns : goal.returns

@@ -3,7 +3,7 @@ use Rattle.std.proofs.lemmas.Bool.{cases_lt}
 use Rattle.std.proofs.lemmas.List.{ext_get_or}
 use Rattle.flash_core.specs.Images.{part}
 use Rattle.flash_core.proofs.ImageLaws.{get_or-part, length-part}
-use Rattle.kv_model.specs.Sizes.{up}
+use Rattle.base_core.specs.Units.{up}
 use Rattle.record_core.specs.Record.{record_payload}
 use Rattle.record_core.proofs.RecordLemmas.{length-record_payload}
 use Rattle.record_core.proofs.PayloadLemmas.{payload_key, payload_value, payload_pad}

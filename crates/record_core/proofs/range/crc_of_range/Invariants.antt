@@ -1,8 +1,6 @@
 use Rattle.std.proofs.Common.{◌≡◌, ◌≤◌, ◌-◌}
 use Rattle.flash_core.specs.Calls.{OnlyReads}
-use Rattle.flash_core.specs.Images.{part}
-use Rattle.flash_core.specs.State.{IfTold}
-use Rattle.kv_model.specs.Crc.{crc_from}
+use Rattle.record_core.specs.Lookup.{IsCrcOf}
 use Rattle.record_core.proofs.range.crc_of_range.Given as goal
 
 abbrev pub invariant-loop-done : goal.invariant-loop-done
@@ -10,7 +8,7 @@ invariant-loop-done g l =
     let old = g.F.Flash.state l.fn.flash in
     record {
       reads : OnlyReads old (g.F.Flash.state l.flash);
-      sum : IfTold old.image (λ image. l.sum ≡ crc_from l.start (part image l.place l.done));
+      sum : IsCrcOf old l.place l.done l.start l.sum;
       most : l.done ≤ l.size;
     }
 

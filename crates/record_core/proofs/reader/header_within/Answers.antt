@@ -1,5 +1,5 @@
 use Rattle.std.proofs.Common.{◌≡◌, sym, ◌∙◌, arith}
-use Rattle.kv_model.specs.Sizes.{record_size}
+use Rattle.base_core.specs.Sizes.{record_size}
 use Rattle.record_core.proofs.HeaderLemmas.{same_sizes}
 use Rattle.record_core.proofs.reader.header_within.Goals as goal
 

@@ -3,7 +3,7 @@ use Rattle.std.specs.Prelude.{IfOk}
 use mathlib.Core.Bool.{false≢true}
 use Rattle.flash_core.specs.declared.geometry.Geometry.{Geometry}
 use Rattle.flash_core.specs.Images.{part}
-use Rattle.kv_model.specs.Sizes.{up}
+use Rattle.base_core.specs.Units.{up}
 use Rattle.record_core.proofs.ReaderLemmas.{both_padded}
 use Rattle.record_core.proofs.reader.is_padded.Goals as goal
 

@@ -2,8 +2,8 @@ use Rattle.std.proofs.Common.{◌≡◌, ◌↔◌, ℕ, ◌+◌, ◌-◌, lengt
 use Rattle.std.specs.Prelude.{IfOk}
 use Rattle.std.proofs.lemmas.List.{length-take-le}
 use Rattle.flash_core.specs.Images.{part}
-use Rattle.kv_model.specs.Sizes.{up}
-use Rattle.kv_model.proofs.SizesLemmas.{up-ge}
+use Rattle.base_core.specs.Units.{up}
+use Rattle.base_core.proofs.UnitLemmas.{up-ge}
 use Rattle.record_core.proofs.SizeLemmas.{up-most}
 use Rattle.record_core.proofs.reader.is_padded_to_units.Goals as goal
 

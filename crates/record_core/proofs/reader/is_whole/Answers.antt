@@ -4,8 +4,8 @@ use Rattle.flash_core.specs.declared.geometry.Geometry.{Geometry}
 use Rattle.flash_core.specs.Images.{part}
 use Rattle.flash_core.proofs.GeometryLaws.{prog_positive}
 use Rattle.kv_model.specs.Crc.{crc_of}
-use Rattle.kv_model.specs.Sizes.{up}
-use Rattle.kv_model.proofs.SizesLemmas.{up-ge}
+use Rattle.base_core.specs.Units.{up}
+use Rattle.base_core.proofs.UnitLemmas.{up-ge}
 use Rattle.record_core.specs.Header.{header_front}
 use Rattle.record_core.specs.Reading.{IsPadded, crc_read}
 use Rattle.record_core.proofs.ReaderLemmas.{whole_padded}

@@ -2,7 +2,7 @@ use Rattle.std.proofs.Common.{ℕ, ◌-◌, ◌<◌, ◌≡◌, ap, subst, arith
 use Rattle.std.specs.Prelude.{IsNone}
 use Rattle.flash_core.specs.declared.geometry.Geometry.{Geometry}
 use Rattle.flash_core.proofs.GeometryLaws.{prog_positive}
-use Rattle.kv_model.specs.Sizes.{record_size}
+use Rattle.base_core.specs.Sizes.{record_size}
 use Rattle.record_core.specs.declared.header.Header.{Header}
 use Rattle.record_core.specs.Header.{IsHeader, header_bytes}
 use Rattle.record_core.proofs.ReaderLemmas.{head_found, no_room}

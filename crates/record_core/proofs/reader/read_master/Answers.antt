@@ -1,12 +1,13 @@
-use Rattle.std.proofs.Common.{◌≡◌, ℕ, ◌+◌, sym, ◌∙◌, ap, subst, arith}
+use Rattle.std.proofs.Common.{◌≡◌, ℕ, ◌+◌, refl, sym, ◌∙◌, ap, subst, arith}
 use mathlib.Core.Bool.{false≢true}
 use Rattle.flash_core.specs.declared.geometry.Geometry.{Geometry}
 use Rattle.flash_core.specs.Images.{part}
 use Rattle.flash_core.specs.Sizes.{size_of}
 use Rattle.flash_core.proofs.GeometryLaws.{prog_positive}
 use Rattle.flash_core.proofs.KeptLaws.{OnlyReads-trans}
-use Rattle.kv_model.specs.Sizes.{up, master_size}
-use Rattle.kv_model.proofs.SizesLemmas.{up-ge}
+use Rattle.base_core.specs.Units.{up}
+use Rattle.base_core.specs.Sizes.{master_size}
+use Rattle.base_core.proofs.UnitLemmas.{up-ge}
 use Rattle.record_core.specs.Reading.{IsPadded}
 use Rattle.record_core.proofs.ReaderLemmas.{after_reads, header_of_stand, master_stands, none_is_not_some, padded_of_stand, payload_of_stand, refused}
 use Rattle.record_core.proofs.WriterLemmas.{master_inside}
@@ -69,3 +70,22 @@ returns-else-branch-clause-found g c image told version is =
     let prog = ap (λ (x : Geometry). x.prog) (second.geometry ∙ first.geometry) in
     let pad = subst (λ (p : ℕ). IsPadded p image c.args.area 12) (sym prog) (padded_of_stand s.geometry.prog positive image c.args.area version is) in
     false≢true (sym c.if-branch.false ∙ (c.in_ok-is_padded.ensures.padded image (second.image ∙ first.image ∙ told)).1 pad)
+
+pub read_part-requires : goal.read_part-requires
+read_part-requires g c =
+    let s = g.F.Flash.state c.args.flash.now in
+    omega (arith, master_inside s.geometry c.args.area c.requires.valid c.requires.area, up-ge s.geometry.prog 24 (prog_positive s.geometry c.requires.valid))
+
+pub returns-then-branch-clause-reads : goal.returns-then-branch-clause-reads
+returns-then-branch-clause-reads g c = record {
+  kept = OnlyReads-trans c.in_ok-read_part.ensures.reads.kept (OnlyReads-trans c.in_ok-read_part-2.ensures.reads.kept c.in_ok-is_padded.ensures.reads.kept);
+  steady = λ steady. refl;
+  cause = tt;
+}
+
+pub returns-else-branch-clause-reads : goal.returns-else-branch-clause-reads
+returns-else-branch-clause-reads g c = record {
+  kept = OnlyReads-trans c.in_ok-read_part.ensures.reads.kept (OnlyReads-trans c.in_ok-read_part-2.ensures.reads.kept c.in_ok-is_padded.ensures.reads.kept);
+  steady = λ steady. refl;
+  cause = tt;
+}

@@ -5,8 +5,8 @@ use Rattle.flash_core.specs.Images.{part}
 use Rattle.flash_core.specs.Sizes.{size_of}
 use Rattle.flash_core.proofs.GeometryLaws.{prog_positive}
 use Rattle.kv_model.specs.Keys.{is_key}
-use Rattle.kv_model.specs.Sizes.{up}
-use Rattle.kv_model.proofs.SizesLemmas.{up-ge}
+use Rattle.base_core.specs.Units.{up}
+use Rattle.base_core.proofs.UnitLemmas.{up-ge}
 use Rattle.record_core.specs.Reading.{IsFitting, IsWhole, crc_read}
 use Rattle.record_core.proofs.ReaderLemmas.{has_record, is_key_read, is_whole_record}
 use Rattle.record_core.proofs.reader.read_record.Goals as goal

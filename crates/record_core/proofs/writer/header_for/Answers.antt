@@ -10,8 +10,7 @@ returns c =
     let key = c.args.payload.now.key.now in
     let value = c.args.payload.now.value.now in
     let front : List ℕ = header_front c.args.flags (length key) (length value) in
-    let start : c.crc-front.result ≡ crc_from 0xFFFF_FFFF front =
-    c.crc-front.ensures ∙ ap (λ (l : List ℕ). crc_from 0xFFFF_FFFF (take 20 l)) c.to_bytes.ensures ∙ ap (crc_from 0xFFFF_FFFF) (front_of _) in
+    let start : c.crc_of_front-front.result ≡ crc_from 0xFFFF_FFFF front = c.crc_of_front-front.ensures in
     let sum : c.crc-2.result ≡ crc_from 0xFFFF_FFFF (front ++ key ++ value) =
     c.crc-2.ensures
     ∙ ap (λ (n : ℕ). crc_from n value) (c.crc.ensures ∙ ap (λ (n : ℕ). crc_from n key) start)

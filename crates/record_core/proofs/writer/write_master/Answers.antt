@@ -1,5 +1,5 @@
 use Rattle.std.proofs.Common.{◌≡◌, ℕ, length, sym, ap, subst}
-use Rattle.kv_model.specs.Sizes.{record_size}
+use Rattle.base_core.specs.Sizes.{record_size}
 use Rattle.record_core.specs.Written.{CanWrite}
 use Rattle.record_core.proofs.WriterLemmas.{can_write_master}
 use Rattle.record_core.proofs.writer.write_master.Goals as goal

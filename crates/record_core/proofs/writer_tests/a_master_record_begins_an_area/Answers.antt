@@ -2,7 +2,8 @@ use Rattle.std.proofs.Common.{ℕ, ◌+◌, ◌≤◌, List, lit≤, sym, ◌∙
 use Rattle.flash_core.specs.declared.geometry.Geometry.{Geometry}
 use Rattle.flash_core.specs.Images.{IsErased}
 use Rattle.flash_core.proofs.ImageLaws.{IsErased-replicate}
-use Rattle.kv_model.specs.Sizes.{master_size, up}
+use Rattle.base_core.specs.Sizes.{master_size}
+use Rattle.base_core.specs.Units.{up}
 use Rattle.std.proofs.lemmas.Option.{same_Some}
 use Rattle.record_core.proofs.writer_tests.a_master_record_begins_an_area.Goals as goal
 

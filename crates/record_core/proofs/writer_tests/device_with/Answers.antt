@@ -4,7 +4,7 @@ use Rattle.flash_core.specs.Images.{IsErased}
 use Rattle.flash_core.specs.RecordDevice.{IsMemoryOf}
 use Rattle.flash_core.specs.State.{FlashState}
 use Rattle.flash_core.proofs.ImageLaws.{IsErased-replicate}
-use Rattle.kv_model.specs.Sizes.{record_size}
+use Rattle.base_core.specs.Sizes.{record_size}
 use Rattle.record_core.specs.declared.writer_tests.TheConstants.{SMALL}
 use Rattle.record_core.specs.Written.{CanWrite}
 use Rattle.std.proofs.lemmas.Option.{same_Some}

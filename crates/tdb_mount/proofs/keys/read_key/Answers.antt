@@ -5,8 +5,8 @@ use Rattle.flash_core.specs.Images.{part}
 use Rattle.flash_core.specs.Sizes.{size_of}
 use Rattle.flash_core.proofs.GeometryLaws.{prog_positive}
 use Rattle.kv_model.specs.Keys.{is_key}
-use Rattle.kv_model.specs.Sizes.{up}
-use Rattle.kv_model.proofs.SizesLemmas.{up-ge}
+use Rattle.base_core.specs.Units.{up}
+use Rattle.base_core.proofs.UnitLemmas.{up-ge}
 use Rattle.record_core.specs.Header.{header_bytes}
 use Rattle.tdb_mount.proofs.KeyLemmas.{key_behind_header}
 use Rattle.tdb_mount.proofs.keys.read_key.Goals as goal

@@ -2,7 +2,7 @@ use Rattle.std.proofs.Common.{◌≡◌, ℕ, ◌+◌, List, [], sym, ◌∙◌,
 use Rattle.flash_core.specs.declared.geometry.Geometry.{Geometry}
 use Rattle.flash_core.proofs.GeometryLaws.{prog_positive}
 use Rattle.flash_core.proofs.KeptLaws.{OnlyReads-refl, OnlyReads-trans}
-use Rattle.kv_model.specs.Sizes.{master_size, record_size}
+use Rattle.base_core.specs.Sizes.{master_size, record_size}
 use Rattle.area_log.specs.declared.area.Area.{Area}
 use Rattle.area_log.specs.Areas.{end_of, first_place, IsEnd, IsRange}
 use Rattle.area_log.proofs.AreaLemmas.{area_fits}

@@ -2,7 +2,7 @@ use Rattle.std.proofs.Common.{ℕ, ◌+◌, ◌%◌, ◌==◌, length, sym, ap, 
 use Rattle.std.proofs.lemmas.Bool.{eq-eqb, ne_eqb}
 use Rattle.flash_core.specs.declared.geometry.Geometry.{Geometry}
 use Rattle.flash_core.proofs.GeometryLaws.{size-areas}
-use Rattle.kv_model.specs.Sizes.{up}
+use Rattle.base_core.specs.Units.{up}
 use Rattle.record_core.proofs.SizeLemmas.{up-most}
 use Rattle.kv_cli.proofs.ReadingLemmas.{not_both, same_ok}
 use Rattle.kv_cli.proofs.StoreLemmas.{check_fits, check_full, check_protected}

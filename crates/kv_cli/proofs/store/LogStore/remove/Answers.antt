@@ -5,7 +5,7 @@ use Rattle.flash_core.specs.declared.geometry.Geometry.{Geometry}
 use Rattle.kv_model.specs.FlaggedMap.{Stored}
 use Rattle.kv_model.specs.Keys.{is_key}
 use Rattle.kv_model.specs.Flags.{remove_flags}
-use Rattle.kv_model.specs.History.{Write}
+use Rattle.kv_model.specs.Write.{Write}
 use Rattle.kv_model.specs.Operations.{Remove}
 use Rattle.kv_model.specs.PlainStep.{plain_step}
 use Rattle.kv_model.specs.declared.call.Reply.TheVariants.{Done, Refused}

@@ -30,7 +30,7 @@ pub returns-then-value-gt-MAX_VALUE-clause-step : goal.returns-then-value-gt-MAX
 returns-then-value-gt-MAX_VALUE-clause-step g c constants masters records state who over stands memory =
     stepped constants masters records state who (Set c.args.bytes.now c.args.value.now c.args.flags.bits) (Refused InvalidSize) _
     (set_too_large constants state who stands.running stands.no_set c.args.bytes.now c.args.value.now c.args.flags.bits (c.in-Ok.ensures.valid.0 refl) (below_two _ c.if-flags-ge2.false)
-    (above 65572 _ c.if-value-gt-MAX_VALUE.true)) refl stands
+    (above 65592 _ c.if-value-gt-MAX_VALUE.true)) refl stands
 
 pub append-requires-clause-header : goal.append-requires-clause-header
 append-requires-clause-header g c =
@@ -44,7 +44,7 @@ returns-in_err-check_room-clause-step g c constants masters records state who ov
     let flags = c.args.flags.bits in
     let valid = c.in-Ok.ensures.valid.0 refl in
     let plain = below_two flags c.if-flags-ge2.false in
-    let fits = not_above 65572 (length value) c.if-value-gt-MAX_VALUE.false in
+    let fits = not_above 65592 (length value) c.if-value-gt-MAX_VALUE.false in
     let placed = c.in_ok-place.ensures in
     let room = c.in_err-check_room.ensures in
     let error = c.in_err-check_room.field-0.0 in
@@ -71,7 +71,7 @@ returns-clause-step g c constants masters records state who over stands =
     let ready = StandsFor-kept room.reads room.area room.end room.table mid in
     let checked = subst (λ (k : List ℕ). RoomCheck constants state k (length value) passed) c.in-Ok.ensures.bytes (room.cause constants masters records state (IsOver-read placed.reads over) mid) in
     let nothing = found_nothing _ _ _ _ checked in
-    let step = set_done constants state who stands.running stands.no_set bytes value flags (c.in-Ok.ensures.valid.0 refl) (below_two flags c.if-flags-ge2.false) (not_above 65572 (length value) c.if-value-gt-MAX_VALUE.false) nothing.0 nothing.1 in
+    let step = set_done constants state who stands.running stands.no_set bytes value flags (c.in-Ok.ensures.valid.0 refl) (below_two flags c.if-flags-ge2.false) (not_above 65592 (length value) c.if-value-gt-MAX_VALUE.false) nothing.0 nothing.1 in
     let prog_is = ap (λ (geometry : Geometry). geometry.prog) (room.reads.geometry ∙ placed.reads.geometry) ∙ sym over.prog in
     let stored : Stored = record { flags = flags; bytes = value } in
     append_answer c.append.result _ _ _ c.append.ensures.done c.append.ensures.only (c.append.ensures.stands masters records state ready) (λ after.

@@ -1,0 +1,73 @@
+// Laws of what a power cut leaves of what an image holds. Each is a function with nothing to do:
+// its contract is the law.
+ghost use Rattle.std.specs.Prelude.{◌≡◌, ◌⊎◌, ◌<◌, ◌≤◌, ℕ, List, length, slice_index, Some, None};
+ghost use Rattle.flash_core.specs.declared.geometry.Geometry.{Geometry};
+ghost use Rattle.flash_core.specs.Images.{Torn};
+ghost use Rattle.flash_core.specs.Sizes.{IsValid, size_of};
+ghost use Rattle.kv_model.specs.FlaggedMap.{FlaggedMap};
+ghost use Rattle.base_core.specs.Sizes.{master_size};
+ghost use Rattle.record_core.specs.Chance.{FirstBreak, NoChance};
+ghost use Rattle.record_core.specs.Cuts.{IsApart, IsHeaderCall, IsInArea, IsMasterCall, active_of, base_of, with_version};
+ghost use Rattle.record_core.specs.Mounts.{Contents, Holds, Mounts};
+
+/// Whatever the bytes of an image are, it holds something, and mounts to a map.
+pub fn every_image_mounts()
+    ensures contents { (g : Geometry) (image : List ℕ) → IsValid g
+        → (contents : Contents) × Holds g image contents }
+    ensures map { (g : Geometry) (image : List ℕ) → IsValid g
+        → (map : FlaggedMap) × Mounts g image map }
+{}
+
+/// Each torn image holds no record by chance, or one of its records is the first that it does,
+/// never both, and that one stands at one place. The two whole images hold none by chance.
+pub fn chance_or_first_break()
+    ensures either { (g : Geometry) (before after torn : List ℕ) → IsValid g
+        → NoChance g before after torn ⊎ ((place : ℕ) × FirstBreak g before after torn place) }
+    ensures never_both { (g : Geometry) (before after torn : List ℕ) (place : ℕ) → IsValid g
+        → NoChance g before after torn → FirstBreak g before after torn place → ⊥ }
+    ensures one_place { (g : Geometry) (before after torn : List ℕ) (p q : ℕ) → IsValid g
+        → FirstBreak g before after torn p → FirstBreak g before after torn q → p ≡ q }
+    ensures whole { (g : Geometry) (before after : List ℕ) → IsValid g
+        → NoChance g before after before × NoChance g before after after }
+{}
+
+/// A torn range leaves what an image holds where it is apart from the master records and from the
+/// active records, behind which an erased byte stands: so behind the end of the records, and in the
+/// other area behind its first byte, where that is erased.
+pub fn contents_survive_elsewhere()
+    ensures apart { (g : Geometry) (before torn : List ℕ) (c : Contents) (place n : ℕ) → IsValid g
+        → length before ≡ size_of g → Torn place n before torn → Holds g before c
+        → IsApart g before c place n → Holds g torn c }
+    ensures behind_end { (g : Geometry) (before torn : List ℕ) (c : Contents) (k place n : ℕ)
+        → IsValid g → length before ≡ size_of g → Torn place n before torn → Holds g before c
+        → active_of c ≡ Some k → IsInArea g k place n → c.end < place
+        → slice_index before c.end ≡ 255 → Holds g torn c }
+    ensures in_spare { (g : Geometry) (before torn : List ℕ) (c : Contents) (k place n : ℕ)
+        → IsValid g → length before ≡ size_of g → Torn place n before torn → Holds g before c
+        → (active_of c ≡ Some k → ⊥) → IsInArea g k place n → base_of g k < place
+        → slice_index before (base_of g k) ≡ 255 → Holds g torn c }
+{}
+
+/// A torn header behind the records leaves what the image held, or is whole, or its record is the
+/// first that is there by chance, at the header's place.
+pub fn torn_header_is_whole_or_unseen()
+    ensures { (g : Geometry) (before after torn : List ℕ) (c : Contents) (k n : ℕ)
+        → IsValid g → length before ≡ size_of g → IsHeaderCall g before after torn c k n
+        → Holds g torn c ⊎ (torn ≡ after) ⊎ FirstBreak g before after torn c.end }
+{}
+
+/// A torn erase of an area that isn't active leaves its master record as it was, or none, and a
+/// torn header of a master record there besides the whole one: or a master record there is the
+/// first that is there by chance, at the area's first byte.
+pub fn torn_master_is_whole_or_unseen()
+    ensures erase { (g : Geometry) (before after torn : List ℕ) (c : Contents) (k n : ℕ)
+        → IsValid g → length before ≡ size_of g → IsMasterCall g before after torn c k n
+        → slice_index after (base_of g k) ≡ 255
+        → Holds g torn c ⊎ Holds g torn (with_version k None c)
+        ⊎ FirstBreak g before after torn (base_of g k) }
+    ensures header { (g : Geometry) (before after torn : List ℕ) (c : Contents) (k n : ℕ)
+        → IsValid g → length before ≡ size_of g → IsMasterCall g before after torn c k n
+        → n ≤ master_size g.prog
+        → Holds g torn c ⊎ Holds g torn (with_version k None c) ⊎ (torn ≡ after)
+        ⊎ FirstBreak g before after torn (base_of g k) }
+{}
