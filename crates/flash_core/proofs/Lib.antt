@@ -5,4 +5,6 @@ pub mod ImageLaws
 pub mod KeptLaws
 pub mod MomentLaws
 pub mod Powers
+pub mod RecordLaws
 pub mod RunLaws
+pub mod WriteLogLaws

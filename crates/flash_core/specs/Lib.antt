@@ -3,9 +3,11 @@ pub use Rattle.base_core.specs.Units
 pub mod Calls
 pub mod Erases
 pub mod Images
+pub mod LogMoments
 pub mod Moments
 pub mod RecordDevice
 pub mod Runs
 pub mod Sizes
 pub mod State
 pub mod TwoPrograms
+pub mod WriteLog

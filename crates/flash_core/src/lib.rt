@@ -10,6 +10,7 @@ mod flash;
 mod geometry;
 mod record_flash;
 mod two_programs;
+mod write_log;
 
 pub use base_core::NoMemory;
 pub use erases::erase_units;

@@ -1,5 +1,5 @@
-ghost use Rattle.std.specs.Prelude.{IfOk, replicate};
-ghost use Rattle.flash_core.specs.RecordDevice.{IsMemoryOf};
+ghost use Rattle.std.specs.Prelude.{◌≡◌, Some, IfOk, replicate};
+ghost use Rattle.flash_core.specs.RecordDevice.{IsLoggedOf, IsMemoryOf};
 ghost use Rattle.flash_core.specs.Sizes.{IsValid};
 
 use super::*;
@@ -65,13 +65,32 @@ fn erased_device(alloc: Global) -> Result<RecordFlash, Fail>
     Ok(RecordFlash::new(alloc, SMALL, image)?)
 }
 
+// The same with a log.
+fn logged_device(alloc: Global, room: u32) -> Result<RecordFlash, Fail>
+    requires { IsValid SMALL }
+    ensures { IfOk result (λ flash. IsLoggedOf (⟦<RecordFlash as Flash>⟧.state flash) SMALL (replicate 256 255)) }
+{
+    let image = vec![in alloc; 0xFF; 256]?;
+    Ok(RecordFlash::with_log(alloc, SMALL, image, room)?)
+}
+
+// Programs a payload of 16 bytes and a header of 24 bytes before it.
+fn program_both(flash: &mut RecordFlash) -> Result<(), FlashFault>
+    requires valid { IsValid SMALL }
+    requires geometry { (⟦<RecordFlash as Flash>⟧.state flash.old).geometry ≡ SMALL }
+    requires erased { (⟦<RecordFlash as Flash>⟧.state flash.old).image ≡ Some (replicate 256 255) }
+    ensures { (⟦<RecordFlash as Flash>⟧.state flash.new).geometry ≡ SMALL }
+{
+    program_payload_then_header(flash, 64, &[1; 24], &[2; 16])
+}
+
 #[test]
 fn a_record_is_programmed_read_and_erased(rt: HostRuntime) -> Result<(), Fail> {
     assert!(rt; SMALL.is_valid());
     let mut flash = erased_device(rt.alloc())?;
     assert_eq!(rt; flash.image(), [0xFF; 256].as_slice());
     assert_eq!(rt; flash.geometry(), SMALL);
-    program_payload_then_header(&mut flash, 64, &[1; 24], &[2; 16])?;
+    program_both(&mut flash)?;
     let mut buf = [0; 8];
     flash.read(84, &mut buf)?;
     assert_eq!(rt; buf, [1, 1, 1, 1, 2, 2, 2, 2]);
@@ -79,5 +98,41 @@ fn a_record_is_programmed_read_and_erased(rt: HostRuntime) -> Result<(), Fail> {
     assert_eq!(rt; buf, [2, 2, 2, 2, 0xFF, 0xFF, 0xFF, 0xFF]);
     flash.erase(64)?;
     assert_eq!(rt; flash.image(), [0xFF; 256].as_slice());
+    Ok(())
+}
+
+// The room of a log, and what is refused of a payload of 16 bytes, a header of 24 and an erase of 64.
+const ROOMS: [(u32, bool, bool, u8, u8); 4] = [
+    (15, true, true, 0xFF, 0xFF),
+    (39, true, true, 0xFF, 2),
+    (40, false, true, 1, 2),
+    (104, false, false, 0xFF, 0xFF),
+];
+
+#[test]
+fn a_log_refuses_what_is_longer_than_its_rest(rt: HostRuntime) -> Result<(), Fail> {
+    assert!(rt; SMALL.is_valid());
+    for (room, both, erase, header, payload) in ROOMS {
+        let mut flash = logged_device(rt.alloc(), room)?;
+        assert_eq!(rt; program_both(&mut flash).is_err(), both);
+        assert_eq!(rt; flash.erase(64).is_err(), erase);
+        let image = flash.into_image();
+        assert_eq!(rt; image[64], header, "{room}");
+        assert_eq!(rt; image[88], payload, "{room}");
+    }
+    Ok(())
+}
+
+#[test]
+fn units_are_erased_and_no_other_byte(rt: HostRuntime) -> Result<(), Fail> {
+    assert!(rt; SMALL.is_valid());
+    let image = vec![in rt.alloc(); 0; 256]?;
+    let mut flash = RecordFlash::new(rt.alloc(), SMALL, image)?;
+    erase_units(&mut flash, 64, 2)?;
+    let image = flash.image();
+    assert_eq!(rt;
+        (image[63], image[64], image[191], image[192]),
+        (0, 0xFF, 0xFF, 0)
+    );
     Ok(())
 }

@@ -1,0 +1,3 @@
+pub mod ChipLaws
+pub mod MixLaws
+pub mod PlanLaws
