@@ -44,9 +44,12 @@ EarlyRuns-push : (constants : Constants) (earlier : List Entry) (old mid new : S
     → Follows (rules_behind constants (earlier ++ entries)) mid entry new → EarlyRuns constants earlier old (entries ++ entry ∷ []) new
 EarlyRuns-push constants earlier old mid new [] entry runs follows =
     (new, subst (λ (l : List Entry). Follows (rules_behind constants l) old entry new) (append-nil earlier) (subst (λ (s : StoreState). Follows (rules_behind constants (earlier ++ [])) s entry new) runs follows), refl)
-EarlyRuns-push constants earlier old mid new (e ∷ entries) entry (next, first, runs) follows =
-    (next, first, EarlyRuns-push constants (earlier ++ e ∷ []) next mid new entries entry runs
-    (subst (λ (l : List Entry). Follows (rules_behind constants l) mid entry new) (sym (append_assoc earlier (e ∷ []) entries)) follows))
+EarlyRuns-push constants earlier old mid new (e ∷ entries) entry (next, first, runs) follows = (
+  next,
+  first,
+  EarlyRuns-push constants (earlier ++ e ∷ []) next mid new entries entry runs
+      (subst (λ (l : List Entry). Follows (rules_behind constants l) mid entry new) (sym (append_assoc earlier (e ∷ []) entries)) follows),
+)
 
 -- what a history writes, of which this is the last entry
 written_last : (old : List Entry) (entry : Entry) → ((more : List Entry) → writes None (old ++ more) ≡ writes None old ++ writes None more)
