@@ -2,9 +2,11 @@
 """Compares replays of random scripts with a model of the store in Python.
 
 usage: compare_replays.py PROGRAM SCRIPTS
+       compare_replays.py image SCRIPT
 
-Each script is replayed over an erased image by PROGRAM. The replies must be those of the model, and the image that was
-written must hold the model's map, by a reader that follows docs/FORMAT.md and nothing else.
+Each random script is replayed over an erased image by PROGRAM. The replies must be those of the model, and the image
+that was written must have the model's bytes and hold its map, by a writer and a reader that follow docs/FORMAT.md and
+nothing else. The second form writes the model's image of one script to standard output.
 """
 import os
 import random
@@ -46,6 +48,17 @@ def record_at(image, place):
     return flags, payload[:key_size], payload[key_size:], up(24) + up(key_size + value_size)
 
 
+def padded(data):
+    return data.ljust(up(len(data)), b"\xff")
+
+
+def record_of(flags, key, value):
+    """The bytes of a record."""
+    front = struct.pack("<4sHHIHHI", b"KVR1", 24, 1, flags, len(key), 0, len(value))
+    crc = zlib.crc32(front + key + value) ^ 0xFFFFFFFF
+    return padded(front + struct.pack("<I", crc)) + padded(key + value)
+
+
 def map_of(image):
     """The map to which an image with a master record of version 1 in area 0 mounts."""
     assert record_at(image, 0) == (0, b"TDBS", struct.pack("<HHI", 1, 1, 0), 40), "no master record of version 1"
@@ -65,8 +78,12 @@ class Model:
     def __init__(self):
         self.held = {}
         self.spent = 0
+        self.records = record_of(0, b"TDBS", struct.pack("<HHI", 1, 1, 0))
 
-    def written(self, key, value):
+    def image(self):
+        return self.records.ljust(2 * AREA, b"\xff")
+
+    def written(self, flags, key, value):
         """Why no record of this key and value can be written, or None where it was."""
         if self.held.get(key, (0, b""))[0] == 1:
             return "error 5 write-protected"
@@ -74,6 +91,7 @@ class Model:
         if need > ROOM:
             return f"error 6 media-full need {need} room {ROOM}"
         self.spent = need
+        self.records += record_of(flags, key, value)
         return None
 
     def reply(self, verb, word, *words):
@@ -88,7 +106,7 @@ class Model:
         if verb == "info":
             return f"ok {len(value)} {'w' if flags else '-'}"
         if verb == "remove":
-            refused = self.written(key, b"")
+            refused = self.written(REMOVED, key, b"")
             if not refused:
                 del self.held[key]
             return refused or "ok"
@@ -100,7 +118,7 @@ class Model:
     def set(self, key, value, flags):
         if flags not in ("-", "w"):
             return "error 3 invalid-flags"
-        refused = self.written(key, value)
+        refused = self.written(int(flags == "w"), key, value)
         if not refused:
             self.held[key] = (int(flags == "w"), value)
         return refused or "ok"
@@ -129,10 +147,25 @@ def compare(program, folder, seed):
     replies = [f"1 {i} {model.reply(*line.split(' ')[1:])}\n" for i, line in enumerate(lines, 1)]
     assert done.stdout.decode() == "".join(replies), f"seed {seed}: other replies"
     with open(image, "rb") as file:
-        assert map_of(file.read()) == model.held, f"seed {seed}: another map"
+        found = file.read()
+    assert found == model.image(), f"seed {seed}: another image"
+    assert map_of(found) == model.held, f"seed {seed}: another map"
+
+
+def image_of(script):
+    """The model's image of a script."""
+    model = Model()
+    with open(script) as file:
+        for line in file.read().split("\n"):
+            if line and not line.startswith("#"):
+                model.reply(*line.split(" ")[1:])
+    return model.image()
 
 
 def main():
+    if sys.argv[1] == "image":
+        sys.stdout.buffer.write(image_of(sys.argv[2]))
+        return
     program, scripts = os.path.abspath(sys.argv[1]), int(sys.argv[2])
     with tempfile.TemporaryDirectory() as folder:
         for seed in range(scripts):

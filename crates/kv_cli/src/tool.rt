@@ -214,7 +214,8 @@ pub fn tool<H: Host>(alloc: Global, words: &[RcStr], host: &mut H) -> Report
         IsCutShort (map rc_str_bytes words.now) c (H.contents host.new) result.journal.entries result.primary) }
     ensures memory { result.status ≡ 9 → H.contents host.new ≡ H.contents host.old }
     ensures nothing { result.status ≢ 0 → result.status ≢ 4 → IsNothing result.journal.entries result.primary }
-    ensures only_words { names_of (map rc_str_bytes words.now) ≡ None → IsUnlessHindered 1 result.status }
+    ensures only_words { names_of (map rc_str_bytes words.now) ≡ None →
+        (result.status ≡ 1) ⊎ (result.status ≡ 4) }
     ensures only_script { IfTold (H.contents host.old) (λ c.
         (line : List ℕ) → Gives LacksScript (map rc_str_bytes words.now) c line → IsUnlessHindered 2 result.status) }
     ensures only_image { IfTold (H.contents host.old) (λ c.

@@ -1,6 +1,6 @@
 -- What is read of a text is what the grammar says of it, and what the grammar says of it is read.
 use Rattle.std.proofs.Common.{◌≡◌, ℕ, ◌+◌, ◌<◌, ◌≤◌, ltb, Bool, true, false, cond, List, [], ◌∷◌, ◌++◌, length, Option, Some, None, Ok, Err, refl, sym, ap, subst, ◌∙◌, append_assoc, arith}
-use Rattle.std.specs.Prelude.{MatchBool}
+use Rattle.std.specs.Prelude.{MatchBool, IsOk}
 use Rattle.std.specs.List.{All}
 use Rattle.std.proofs.lemmas.Bool.{ltb-true, ltb-false, lt-ltb}
 use Rattle.std.proofs.lemmas.List.{append-nil, length-append}
@@ -10,7 +10,7 @@ use Rattle.script_core.specs.declared.error.ScriptError.TheVariants as faults
 use Rattle.script_core.specs.declared.line.Line.{Line}
 use Rattle.script_core.specs.declared.script.ScriptMode.{ScriptMode}
 use Rattle.script_core.specs.Grammar.{IsLine, lines_of, is_skipped, IsGood, Read, most_lines, AreLines, IsScript, ReadsUpTo, IsFirstBad, IsOneTooMany}
-use Rattle.script_core.specs.Reading.{Outcome, Ends, good_line_of, add_line, then_read, read_from, read_text}
+use Rattle.script_core.specs.Reading.{Outcome, Ends, Refuses, good_line_of, add_line, then_read, read_from, read_text}
 use Rattle.script_core.proofs.Modes.{good_line_of-is_some, good_line_of-good}
 
 -- ---- what is read has its meaning
@@ -242,6 +242,20 @@ pub full_answer : (fault : ScriptError) (mode : ScriptMode) (text : List ℕ) �
 full_answer (faults.TooManyCalls number) mode text h line e = let same : number ≡ line = cc in read_text-is_full mode text line (subst (λ (n : ℕ). read_text mode text ≡ Err (faults.TooManyCalls n)) same h)
 full_answer (faults.BadLine number) mode text h line e = absurd cc
 full_answer faults.Memory mode text h line e = absurd cc
+
+-- what is refused in a reading without memory is no want of it
+pub never_memory : {X : Type 0} (fault : ScriptError) (read : Outcome) → Refuses fault read → refused fault ≡ refused faults.Memory → X
+never_memory (faults.BadLine number) read h e = absurd cc
+never_memory (faults.TooManyCalls number) read h e = absurd cc
+never_memory faults.Memory read h e = absurd h
+
+good_text : (mode : ScriptMode) (text : List ℕ) (read : Outcome) → read_text mode text ≡ read → IsOk read → (lines : List Line) × IsScript mode text lines
+good_text mode text (Ok lines) is good = (lines, read_text-is_ok mode text lines is)
+good_text mode text (Err fault) is good = absurd cc
+
+-- a text that is read is a script
+pub some_script : (mode : ScriptMode) (text : List ℕ) → IsOk (read_text mode text) → (lines : List Line) × IsScript mode text lines
+some_script mode text good = good_text mode text (read_text mode text) refl good
 
 -- ---- the lines of a script
 

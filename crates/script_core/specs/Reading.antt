@@ -366,6 +366,32 @@ abbrev pub IsOutcome : {X : Type 0} → (X → List Line) → Result X ScriptErr
 IsOutcome view (Ok lines) read = read ≡ Ok (view lines)
 IsOutcome view (Err fault) read = Ends fault read
 
+-- the refusal that reading gives, which is never want of memory
+abbrev pub Refuses : ScriptError → Outcome → Type 0
+Refuses (faults.BadLine line) read = read ≡ Err (faults.BadLine line)
+Refuses (faults.TooManyCalls line) read = read ≡ Err (faults.TooManyCalls line)
+Refuses faults.Memory read = ⊥
+
+-- what a function that tests a line behind these lines returned: the line, none where it is skipped, or why it is bad
+abbrev pub HasTested : Result (Option SpelledLine) ScriptError → List Line → Outcome → Type 0
+HasTested (Ok None) lines read = read ≡ Ok lines
+HasTested (Ok (Some line)) lines read = read ≡ Ok (lines ++ spelled_line line ∷ [])
+HasTested (Err fault) lines read = Refuses fault read
+
+abbrev pub count_of_lines : Outcome → Option ℕ
+count_of_lines (Ok lines) = Some (length lines)
+count_of_lines (Err fault) = None
+
+-- what a function that counts the lines up to one returned
+abbrev pub HasCounted : Result ℕ ScriptError → Outcome → Type 0
+HasCounted (Ok count) read = count_of_lines read ≡ Some count
+HasCounted (Err fault) read = Refuses fault read
+
+-- what a function that reads and keeps nothing returned
+abbrev pub HasChecked : Result (Unit {0}) ScriptError → Outcome → Type 0
+HasChecked (Ok done) read = IsOk read
+HasChecked (Err fault) read = Refuses fault read
+
 -- what a function that reads one line returned, and the lines that it left; it wants memory for a good line alone
 abbrev pub HasReadOne : Result (Unit {0}) ScriptError → List Line → Outcome → Type 0
 HasReadOne (Ok done) lines read = read ≡ Ok lines

@@ -6,8 +6,8 @@ ghost use Rattle.script_core.specs.Reading.{last_end};
 use crate::parts::Parts;
 use crate::reading;
 
-// For each client the number of the last line that finishes or aborts its incremental set, or 0. Bad lines between
-// the others don't matter.
+// For each client the number of the last line that finishes or aborts its incremental set, or 0.
+// Bad lines between the others don't matter.
 pub(crate) fn last_ends(bytes: &[u8]) -> [u32; 17]
     requires { length bytes.now + 1 < 2 ^ 32 }
     ensures { (who : ℕ) → who ≤ 16 → slice_index result who ≡ last_end who 1 (lines_of bytes.now) }

@@ -14,8 +14,8 @@ pub enum Act {
     Do {
         call: Call,
     },
-    /// A power cut inside the `n`th program or erase of the chip of `side` from here on, which leaves `pattern` of
-    /// it. `n` is at least 1.
+    /// A power cut inside the `n`th program or erase of the chip of `side` from here on, which
+    /// leaves `pattern` of it. `n` is at least 1.
     Cut {
         side: Side,
         n: u32,

@@ -1,8 +1,8 @@
-ghost use Rattle.std.specs.Prelude.{◌≡◌, ◌<◌, ◌+◌, ◌^◌, ◌⊎◌, ℕ, List, [], ◌∷◌, ◌++◌, length, IfOk, OnOk, OnErr};
+ghost use Rattle.std.specs.Prelude.{◌≡◌, ◌<◌, ◌+◌, ◌^◌, ◌⊎◌, ℕ, List, [], ◌∷◌, ◌++◌, length, IfOk, IsSome, OnOk, OnErr};
 ghost use Rattle.script_core.specs.declared.line.Line.{Line};
 ghost use Rattle.script_core.specs.Grammar.{is_skipped, IsScript, IsFirstBad, IsOneTooMany};
 ghost use Rattle.script_core.specs.Spelled.{spelled_act, spelled_line};
-ghost use Rattle.script_core.specs.Reading.{GivesLine, HasReadOne, IsOutcome, Answers, TellsEnds, is_start, cuts_rollback, is_allowed, good_line_of, read_one, read_text};
+ghost use Rattle.script_core.specs.Reading.{GivesLine, HasTested, HasCounted, HasChecked, HasReadOne, IsOutcome, Answers, TellsEnds, is_start, cuts_rollback, is_allowed, good_line_of, read_one, read_text};
 
 use crate::ends::last_ends;
 use crate::error::{Malformed, ScriptError};
@@ -49,7 +49,8 @@ fn cuts_rollback(act: &SpelledAct<'_>) -> bool
     }
 }
 
-// Whether the mode allows a line, where a later line ends the client's incremental set or none does.
+// Whether the mode allows a line, where a later line ends the client's incremental set or none
+// does.
 fn is_allowed(mode: ScriptMode, is_ended: bool, line: &SpelledLine<'_>) -> bool
     ensures { result ≡ is_allowed mode is_ended (spelled_line line.now) }
 {
@@ -76,9 +77,68 @@ fn good_line<'a>(
     Ok(line)
 }
 
+// The line of this number behind `count` call lines, or `None` where it is skipped. It takes no
+// memory.
+fn test_one<'a>(
+    mode: ScriptMode,
+    ends: &[u32; 17],
+    number: u32,
+    count: usize,
+    text: &'a [u8],
+) -> Result<Option<SpelledLine<'a>>, ScriptError>
+    ensures tested { (later : List (List ℕ)) (lines : List Line) → TellsEnds ends.now number later →
+        length lines ≡ count → HasTested result lines (read_one mode number lines text.now later) }
+    ensures room { IfOk result (λ found. IsSome found → count < 8192) }
+{
+    if is_skipped(text) {
+        return Ok(None);
+    }
+    let Ok(line) = good_line(mode, ends, number, text) else {
+        return Err(ScriptError::BadLine { line: number });
+    };
+    if count >= MOST_LINES {
+        return Err(ScriptError::TooManyCalls { line: number });
+    }
+    Ok(Some(line))
+}
+
+// How many call lines there are with the line of this number, where there are `count` before it.
+fn count_one(
+    mode: ScriptMode,
+    ends: &[u32; 17],
+    number: u32,
+    count: usize,
+    text: &[u8],
+) -> Result<usize, ScriptError>
+    ensures { (later : List (List ℕ)) (lines : List Line) → TellsEnds ends.now number later →
+        length lines ≡ count → HasCounted result (read_one mode number lines text.now later) }
+{
+    match test_one(mode, ends, number, count, text) {
+        Ok(Some(_)) => Ok(count + 1),
+        Ok(None) => Ok(count),
+        Err(fault) => Err(fault),
+    }
+}
+
+// Reads a text and keeps none of its lines, so that it takes no memory.
+fn check(mode: ScriptMode, bytes: &[u8]) -> Result<(), ScriptError>
+    requires { length bytes.now + 1 < 2 ^ 32 }
+    ensures { HasChecked result (read_text mode bytes.now) }
+{
+    let ends = last_ends(bytes);
+    let mut count = 0usize;
+    let mut number = 0u32;
+    for text in Parts::new(b'\n', bytes) {
+        number += 1;
+        count = count_one(mode, &ends, number, count, text)?;
+    }
+    Ok(())
+}
+
 // Adds a copy of a line. It refuses for want of memory alone, and then adds nothing.
 fn add_copy(alloc: Global, lines: &mut Vec<Line>, line: SpelledLine<'_>) -> Result<(), NoMemory>
-    ensures added { OnOk result (lines.new.items ≡ lines.old.items ++ spelled_line line.entry ∷ []) }
+    ensures added { OnOk result (lines.new.items ≡ lines.old.items
+        ++ spelled_line line.entry ∷ []) }
     ensures stands { OnErr result (lines.new.items ≡ lines.old.items) }
 {
     let line = line.copied(alloc)?;
@@ -99,18 +159,13 @@ fn read_one(
         HasReadOne result lines.new.items (read_one mode number lines.old.items text.now later) }
     ensures stands { OnErr result (lines.new.items ≡ lines.old.items) }
 {
-    if is_skipped(text) {
-        return Ok(());
-    }
-    let Ok(line) = good_line(mode, ends, number, text) else {
-        return Err(ScriptError::BadLine { line: number });
-    };
-    if lines.len() >= MOST_LINES {
-        return Err(ScriptError::TooManyCalls { line: number });
-    }
-    match add_copy(alloc, lines, line) {
-        Ok(()) => Ok(()),
-        Err(NoMemory) => Err(ScriptError::Memory),
+    match test_one(mode, ends, number, lines.len(), text) {
+        Ok(Some(line)) => match add_copy(alloc, lines, line) {
+            Ok(()) => Ok(()),
+            Err(NoMemory) => Err(ScriptError::Memory),
+        },
+        Ok(None) => Ok(()),
+        Err(fault) => Err(fault),
     }
 }
 
@@ -128,17 +183,26 @@ fn read(alloc: Global, mode: ScriptMode, bytes: &[u8]) -> Result<Vec<Line>, Scri
     Ok(lines)
 }
 
-/// The script that a text is. `bytes` has fewer than 4,294,967,295 bytes. Every answer but `Memory`, which comes for
-/// want of memory alone, follows from the text and the mode.
+/// The script that a text is. `bytes` has fewer than 4,294,967,295 bytes. Every answer but
+/// `Memory`, which comes for want of memory alone, follows from the text and the mode. `Memory`
+/// comes only where the text is a script.
 pub fn parse_script(alloc: Global, bytes: &[u8], mode: ScriptMode) -> Result<Script, ScriptError>
     requires { length bytes.now + 1 < 2 ^ 32 }
     ensures found { IfOk result (λ script. IsScript mode bytes.now script) }
-    ensures only_found { (script : List Line) → IsScript mode bytes.now script → Answers result (Ok script) }
-    ensures bad_line { (line : ℕ) → result ≡ Err (ScriptError.BadLine line) → IsFirstBad mode bytes.now line }
-    ensures only_bad_line { (line : ℕ) → IsFirstBad mode bytes.now line → Answers result (Err (ScriptError.BadLine line)) }
-    ensures too_many { (line : ℕ) → result ≡ Err (ScriptError.TooManyCalls line) → IsOneTooMany mode bytes.now line }
-    ensures only_too_many { (line : ℕ) → IsOneTooMany mode bytes.now line → Answers result (Err (ScriptError.TooManyCalls line)) }
+    ensures only_found { (script : List Line) → IsScript mode bytes.now script →
+        Answers result (Ok script) }
+    ensures bad_line { (line : ℕ) → result ≡ Err (ScriptError.BadLine line) →
+        IsFirstBad mode bytes.now line }
+    ensures only_bad_line { (line : ℕ) → IsFirstBad mode bytes.now line →
+        Answers result (Err (ScriptError.BadLine line)) }
+    ensures too_many { (line : ℕ) → result ≡ Err (ScriptError.TooManyCalls line) →
+        IsOneTooMany mode bytes.now line }
+    ensures only_too_many { (line : ℕ) → IsOneTooMany mode bytes.now line →
+        Answers result (Err (ScriptError.TooManyCalls line)) }
+    ensures memory { result ≡ Err ScriptError.Memory →
+        (script : List Line) × IsScript mode bytes.now script }
 {
+    check(mode, bytes)?;
     let lines = read(alloc, mode, bytes)?;
     Ok(Script::new(lines))
 }

@@ -13,7 +13,8 @@ fn find(byte: u8, bytes: &[u8]) -> Option<usize>
 
 // What stands before the first separator, and what stands behind it where there is one.
 fn cut(separator: u8, bytes: &[u8]) -> (&[u8], Option<&[u8]>)
-    ensures { slice_split (λ b. b == separator) bytes.now ≡ result.0.now ∷ split_rest separator result.1 }
+    ensures { slice_split (λ b. b == separator) bytes.now ≡
+        result.0.now ∷ split_rest separator result.1 }
 {
     match find(separator, bytes) {
         Some(end) => (&bytes[..end], Some(&bytes[end + 1..])),
@@ -21,7 +22,8 @@ fn cut(separator: u8, bytes: &[u8]) -> (&[u8], Option<&[u8]>)
     }
 }
 
-// The parts of some bytes that a separator cuts, first to last: the lines of a text, or the words of a line.
+// The parts of some bytes that a separator cuts, first to last: the lines of a text, or the words
+// of a line.
 #[derive(Drop)]
 pub(crate) struct Parts<'a> {
     separator: u8,
@@ -45,7 +47,8 @@ impl<'a> Parts<'a> {
 
     // The next part.
     pub(crate) fn part(&mut self) -> Result<&'a [u8], Malformed>
-        ensures { MatchResult result (λ part. word_at (parts_left self.old) ≡ Some (part.now, parts_left self.new))
+        ensures { MatchResult result (λ part. word_at (parts_left self.old) ≡
+            Some (part.now, parts_left self.new))
             (λ _. word_at (parts_left self.old) ≡ None) }
     {
         self.next().ok_or(Malformed)

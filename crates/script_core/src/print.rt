@@ -12,7 +12,8 @@ use std::alloc::Global;
 
 // Appends words, with a separator in front of each.
 fn append(text: &mut Vec<u8>, separator: u8, words: &[&[u8]]) -> Result<(), NoMemory>
-    ensures { OnOk result (text.new.items ≡ text.old.items ++ behind separator (map (λ word. word.now) words.now)) }
+    ensures { OnOk result (text.new.items ≡ text.old.items
+        ++ behind separator (map (λ word. word.now) words.now)) }
 {
     for word in words {
         text.push(separator)?;
@@ -57,7 +58,8 @@ fn print_part(
     offset: u32,
     count: u32,
 ) -> Result<(), NoMemory>
-    ensures { OnOk result (text.new.items ≡ text.old.items ++ behind 32 (canonical_words (Do (call.Part key.now offset count)))) }
+    ensures { OnOk result (text.new.items ≡ text.old.items
+        ++ behind 32 (canonical_words (Do (call.Part key.now offset count)))) }
 {
     let offset = offset.to_string(alloc)?;
     let count = count.to_string(alloc)?;
@@ -78,7 +80,8 @@ fn print_set(
     flags: Flags,
 ) -> Result<(), NoMemory>
     requires { IsFlagBits flags.bits }
-    ensures text { OnOk result (text.new.items ≡ text.old.items ++ behind 32 (canonical_words (Do (call.Set key.now value.now flags)))) }
+    ensures text { OnOk result (text.new.items ≡ text.old.items
+        ++ behind 32 (canonical_words (Do (call.Set key.now value.now flags)))) }
     ensures again { OnOk result (IsHexWord (hex_word value.now) value.now) }
 {
     let value = digits(alloc, value.as_slice())?;
@@ -95,7 +98,8 @@ fn print_start(
     flags: Flags,
 ) -> Result<(), NoMemory>
     requires { IsFlagBits flags.bits }
-    ensures { OnOk result (text.new.items ≡ text.old.items ++ behind 32 (canonical_words (Do (call.Start key.now size flags)))) }
+    ensures { OnOk result (text.new.items ≡ text.old.items
+        ++ behind 32 (canonical_words (Do (call.Start key.now size flags)))) }
 {
     let size = size.to_string(alloc)?;
     let words = [b"start".as_slice(), key.as_slice(), size.as_bytes()];
@@ -104,7 +108,8 @@ fn print_start(
 }
 
 fn print_open(alloc: Global, text: &mut Vec<u8>, n: u8, prefix: &Bytes) -> Result<(), NoMemory>
-    ensures { OnOk result (text.new.items ≡ text.old.items ++ behind 32 (canonical_words (Do (call.IterOpen n prefix.now)))) }
+    ensures { OnOk result (text.new.items ≡ text.old.items
+        ++ behind 32 (canonical_words (Do (call.IterOpen n prefix.now)))) }
 {
     let n = n.to_string(alloc)?;
     append(
@@ -119,7 +124,8 @@ fn print_open(alloc: Global, text: &mut Vec<u8>, n: u8, prefix: &Bytes) -> Resul
 // Appends the words of a call.
 fn print_call(alloc: Global, text: &mut Vec<u8>, asked: &Call) -> Result<(), NoMemory>
     requires { IsAct (Do asked.now) }
-    ensures text { OnOk result (text.new.items ≡ text.old.items ++ behind 32 (canonical_words (Do asked.now))) }
+    ensures text { OnOk result (text.new.items ≡ text.old.items
+        ++ behind 32 (canonical_words (Do asked.now))) }
     ensures again { OnOk result (AreWords (canonical_words (Do asked.now)) (Do asked.now)) }
 {
     match asked {
@@ -182,7 +188,8 @@ fn print_cut(
     n: u32,
     pattern: Pattern,
 ) -> Result<(), NoMemory>
-    ensures { OnOk result (text.new.items ≡ text.old.items ++ behind 32 (codes "cut" ∷ cut_word side n pattern ∷ [])) }
+    ensures { OnOk result (text.new.items ≡ text.old.items
+        ++ behind 32 (codes "cut" ∷ cut_word side n pattern ∷ [])) }
 {
     append(text, b' ', &[b"cut".as_slice()])?;
     append(text, b' ', &[letter(side)])?;
@@ -194,7 +201,8 @@ fn print_cut(
 // Appends the words of an act.
 fn print_act(alloc: Global, text: &mut Vec<u8>, act: &Act) -> Result<(), NoMemory>
     requires { IsAct act.now }
-    ensures text { OnOk result (text.new.items ≡ text.old.items ++ behind 32 (canonical_words act.now)) }
+    ensures text { OnOk result (text.new.items ≡ text.old.items
+        ++ behind 32 (canonical_words act.now)) }
     ensures again { OnOk result (AreWords (canonical_words act.now) act.now) }
 {
     match act {
@@ -203,13 +211,14 @@ fn print_act(alloc: Global, text: &mut Vec<u8>, act: &Act) -> Result<(), NoMemor
     }
 }
 
-/// The canonical spelling of a line: with lower-case digits. Parsed without threads and with a rollback store, it is
-/// the script of this line. It refuses for want of memory alone.
+/// The canonical spelling of a line: with lower-case digits. Parsed without threads and with a
+/// rollback store, it is the script of this line. It refuses for want of memory alone.
 pub fn print_line(alloc: Global, line: &Line) -> Result<Bytes, NoMemory>
     requires { IsLine line.now }
     ensures canonical { IfOk result (λ text. text ≡ canonical line.now) }
     ensures spells { IfOk result (λ text. Spells text line.now) }
-    ensures again { IfOk result (λ text. IsScript (record { threads = false; secure = true }) text (line.now ∷ [])) }
+    ensures again { IfOk result (λ text.
+        IsScript (record { threads = false; secure = true }) text (line.now ∷ [])) }
 {
     let mut text = Vec::new(alloc);
     let who = line.who.to_string(alloc)?;

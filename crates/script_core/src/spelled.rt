@@ -1,5 +1,5 @@
-// A line as its words spell it. Only making the bytes that it stands for takes memory, so that everything else about a
-// line is tested before.
+// A line as its words spell it. Only making the bytes that it stands for takes memory, so that
+// everything else about a line is tested before.
 ghost use Rattle.std.specs.Prelude.{◌≡◌, IfOk};
 ghost use Rattle.script_core.specs.Spelled.{spelled_call, spelled_act, spelled_line};
 
