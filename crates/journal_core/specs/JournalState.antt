@@ -1,5 +1,5 @@
 -- What a journal is to its callers: its entries, and how many more it can take without memory.
-use Rattle.std.specs.Prelude.{ℕ, ◌+◌, List, length}
+use Rattle.std.specs.Prelude.{◌≡◌, ℕ, ◌+◌, ◌<◌, ◌≤◌, List, length, slice_index}
 use Rattle.kv_model.specs.declared.call.Call.{Call}
 use Rattle.kv_model.specs.declared.call.Reply.{Reply}
 use Rattle.kv_model.specs.declared.call.Entry.{Entry}
@@ -18,3 +18,8 @@ next_entry entries who call reply = record {
   call = call;
   reply = reply;
 }
+
+-- each client's entries are counted, and each entry has a position that fits
+pub record IsCounted (counts : List ℕ) (entries : List Entry) : Type 0 where
+  pub each : (who : ℕ) → who < 256 → slice_index counts who ≡ entries_of who entries
+  pub positions : length entries ≤ 4294967295

@@ -1,11 +1,15 @@
 ghost use Rattle.std.specs.Prelude.{◌≡◌, ◌+◌, ◌<◌, ◌≤◌, ◌++◌, ◌∷◌, [], ℕ, length, slice_index, IfOk, OnOk, OnErr};
+ghost use Rattle.journal_core.specs.Clients.{positions_of, text_by_client};
 ghost use Rattle.journal_core.specs.JournalState.{next_entry};
 ghost use Rattle.journal_core.specs.Texts.{text_of};
 
-use crate::text::push_entries;
+use crate::text::{push_entries, push_entries_by};
 use kv_model::{Call, Entry, NoMemory, Reply};
 use std::alloc::Global;
 use std::marker::Model;
+
+// The greatest number of a client.
+const LAST_CLIENT: u8 = 16;
 
 /// The completed calls of a run, in order. It numbers them, over all and for each client, without walking its list.
 #[derive(Drop)]
@@ -16,15 +20,14 @@ pub struct Journal {
 }
 
 impl Model for Journal {
-    ghost use Rattle.std.specs.Prelude.{◌≡◌, ◌<◌, ◌-◌, ℕ, length, slice_index, vec_len, vec_capacity};
-    ghost use Rattle.kv_model.specs.History.{entries_of};
-    ghost use Rattle.journal_core.specs.JournalState.{JournalState};
+    ghost use Rattle.std.specs.Prelude.{◌-◌, vec_len, vec_capacity};
+    ghost use Rattle.journal_core.specs.JournalState.{JournalState, IsCounted};
 
     ghost Value = { JournalState };
 
     ghost view = { λ j. record { entries = j.entries.items; spare = vec_capacity j.entries - vec_len j.entries } };
 
-    ghost invariant = { λ j. (who : ℕ) → who < 256 → slice_index j.counts who ≡ entries_of who j.entries.items };
+    ghost invariant = { λ j. IsCounted j.counts j.entries.items };
 }
 
 fn no_counts() -> [u32; 256]
@@ -82,6 +85,31 @@ impl Journal {
     {
         let mut text = Vec::new(alloc);
         push_entries(alloc, &mut text, &self.entries)?;
+        Ok(text)
+    }
+
+    /// The positions of a client's entries, in order and counted from 1. It refuses for want of memory alone.
+    pub fn of_client(&self, alloc: Global, who: u8) -> Result<Vec<u32>, NoMemory>
+        ensures { IfOk result (λ positions. positions.items ≡ positions_of who self.now.entries) }
+    {
+        let mut positions = Vec::new(alloc);
+        for (i, entry) in self.entries.iter().enumerate() {
+            if entry.who == who {
+                positions.push(i as u32 + 1)?;
+            }
+        }
+        Ok(positions)
+    }
+
+    /// The printed form of the entries of client 0, then of 1, up to 16, a line each. It refuses for want of memory
+    /// alone.
+    pub fn by_client(&self, alloc: Global) -> Result<Vec<u8>, NoMemory>
+        ensures { IfOk result (λ text. text.items ≡ text_by_client self.now.entries) }
+    {
+        let mut text = Vec::new(alloc);
+        for who in 0..=LAST_CLIENT {
+            push_entries_by(alloc, &mut text, who, &self.entries)?;
+        }
         Ok(text)
     }
 }

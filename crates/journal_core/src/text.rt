@@ -1,6 +1,7 @@
 // The printed form of replies. Each function appends to the text, and refuses for want of memory alone.
 ghost use Rattle.std.specs.Prelude.{◌≡◌, ◌++◌, OnOk, codes};
 ghost use Rattle.std.specs.Fmt.{decimal};
+ghost use Rattle.journal_core.specs.Clients.{entries_by};
 ghost use Rattle.journal_core.specs.Texts.{hex_text, flags_text, crc_text, details_text, refusal_text, reply_text, entry_line, text_of};
 
 use kv_model::{Entry, Flags, KvError, NoMemory, Reply};
@@ -130,6 +131,22 @@ pub fn push_entries(alloc: Global, text: &mut Vec<u8>, entries: &[Entry]) -> Res
 {
     for entry in entries {
         push_entry(alloc, text, entry)?;
+    }
+    Ok(())
+}
+
+pub fn push_entries_by(
+    alloc: Global,
+    text: &mut Vec<u8>,
+    who: u8,
+    entries: &[Entry],
+) -> Result<(), NoMemory>
+    ensures { OnOk result (text.new.items ≡ text.old.items ++ text_of (entries_by who entries.now)) }
+{
+    for entry in entries {
+        if entry.who == who {
+            push_entry(alloc, text, entry)?;
+        }
     }
     Ok(())
 }

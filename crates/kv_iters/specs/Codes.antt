@@ -1,0 +1,17 @@
+-- How the prover stores what an iterator and a table of iterators are.
+use Rattle.std.specs.Prelude.{ℕ, List, Option, refl}
+use Rattle.std.specs.Coded.{Coded, code_by, coded×, coded_ℕ, coded_list, coded_option}
+use Rattle.std.specs.FinMap as map
+use Rattle.kv_model.specs.StoreState.{Iterators, Position}
+
+abbrev pub position_code : Coded Position
+position_code =
+    code_by
+    (List ℕ × Option (List ℕ))
+    (coded× (coded_list coded_ℕ) (coded_option (coded_list coded_ℕ)))
+    (λ p. (p.prefix, p.last))
+    (λ p. record { prefix = p.0; last = p.1 })
+    (λ _. refl)
+
+abbrev pub iterators_code : Coded Iterators
+iterators_code = map.code (coded× coded_ℕ coded_ℕ) position_code
