@@ -7,8 +7,8 @@ use Rattle.kv_model.specs.declared.call.Entry.{Entry}
 use Rattle.kv_model.specs.Opening.{Opening}
 use Rattle.turn_lock.specs.Books.{Book}
 use Rattle.turn_lock.specs.Totals.{times, once}
-use Rattle.turn_lock.specs.Views.{ALL, taken, loaded, longer, with_found, with_seen}
-use Rattle.turn_lock.specs.Steps.{IsNext}
+use Rattle.turn_lock.specs.Views.{ALL, taken, loaded, longer, missed, with_found, with_seen}
+use Rattle.turn_lock.specs.Steps.{IsNext, IsProper}
 use Rattle.turn_lock.specs.declared.view.View.{View}
 use Rattle.turn_lock.specs.declared.view.Phase.TheVariants.{Idle, Loaded}
 use Rattle.turn_lock.specs.declared.pass.Pass.{Pass}
@@ -33,6 +33,10 @@ pub record IsAtTurn {S : Type 0} (table : TableId) (pass : Pass S) : Type 0 wher
   pub noted : pass.seat.me.0.seen ≡ pass.seat.me.0.noted
   pub out : pass.seat.me.1 ≡ (0, None) ∷ []
 
+-- the one exchange found the turn taken
+abbrev pub HasMissed : View → ℕ → View → Type 0
+HasMissed old word new = (word ≡ 1) × (new ≡ missed word old)
+
 -- two lists begin a third
 abbrev pub BothBegin : List Entry → List Entry → List Entry → Type 0
 BothBegin xs ys zs = IsPrefix xs zs × IsPrefix ys zs
@@ -55,7 +59,7 @@ module _ {S : Type 0} (stands_for : S → Opening → Type 0) (book : S → Book
     pub stands : stands_for x old.opening
     pub seen : IsPrefix old.seen (book x).entries
     pub marks : (who : ℕ) → 0 < times who old.marks → (book x).quitter ≡ Some who
-    pub short : length (book x).entries ≤ ALL
+    pub proper : IsProper new
 
   -- the same, after any number of exchanges that found the turn taken
   abbrev pub HasTurnLater : View → S → View → Type 0

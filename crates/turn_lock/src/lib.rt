@@ -5,10 +5,12 @@ mod booked;
 mod held;
 mod pass;
 mod plays;
+mod sharing;
+mod table;
 mod turns;
 mod view;
 
 pub use booked::Booked;
 pub use held::{Held, Taken};
 pub use pass::Pass;
-pub use turns::Turns;
+pub use table::Turns;

@@ -1,4 +1,4 @@
-use Rattle.turn_lock.proofs.turns.Turns.split.Given as goal
+use Rattle.turn_lock.proofs.table.Turns.split.Given as goal
 
 -- the new pass has this number and these parts
 abbrev pub ghosts-share : goal.ghosts-share

@@ -1,6 +1,6 @@
 use Rattle.std.proofs.Common.{rules, arith}
-use Rattle.turn_lock.proofs.Sharing.{splits_pass}
-use Rattle.turn_lock.proofs.turns.Turns.share.Goals as goal
+use Rattle.turn_lock.proofs.Splitting.{splits_pass}
+use Rattle.turn_lock.proofs.table.Turns.share.Goals as goal
 
 pub split_seat-requires : goal.split_seat-requires
 split_seat-requires g c =

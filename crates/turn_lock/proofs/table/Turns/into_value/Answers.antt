@@ -2,7 +2,7 @@ use Rattle.std.proofs.Common.{rules, ◌≡◌, Some, None, IsSome, refl, sym, a
 use mathlib.Core.Option.{some-injective}
 use Rattle.turn_lock.specs.Passes.{HasClosed}
 use Rattle.turn_lock.proofs.Closing.{closes}
-use Rattle.turn_lock.proofs.turns.Turns.into_value.Goals as goal
+use Rattle.turn_lock.proofs.table.Turns.into_value.Goals as goal
 
 pub only-state-requires : goal.only-state-requires
 only-state-requires g c =

@@ -1,5 +1,5 @@
 use Rattle.turn_lock.proofs.Waiting.{Waits}
-use Rattle.turn_lock.proofs.turns.Turns.take.Given as goal
+use Rattle.turn_lock.proofs.table.Turns.take.Given as goal
 
 -- the pass waits
 abbrev pub invariant-loop : goal.invariant-loop

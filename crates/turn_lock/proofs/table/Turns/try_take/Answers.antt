@@ -1,7 +1,7 @@
 use Rattle.std.proofs.Common.{rules, ◌≡◌, ℕ, [], ◌∷◌, Some, None, refl, sym, ap, ◌∙◌, arith}
 use Rattle.atomic_table.specs.Table.{rest}
 use Rattle.turn_lock.proofs.Turning.{takes_turn, loads_turn}
-use Rattle.turn_lock.proofs.turns.Turns.try_take.Goals as goal
+use Rattle.turn_lock.proofs.table.Turns.try_take.Goals as goal
 
 -- the exchange
 pub compare_exchange-word-requires : goal.compare_exchange-word-requires

@@ -8,7 +8,7 @@ use Rattle.kv_model.specs.Opening.{Opening}
 use Rattle.kv_model.specs.declared.call.Entry.{Entry}
 use Rattle.turn_lock.specs.Books.{Book}
 use Rattle.turn_lock.specs.Totals.{total, times, once}
-use Rattle.turn_lock.specs.Views.{ALL, newcomer, with_parts}
+use Rattle.turn_lock.specs.Views.{ALL, newcomer_beside, less_parts}
 use Rattle.turn_lock.specs.Rule.{out, last, live, has_all, busy, Knows, Fits, Kept}
 use Rattle.turn_lock.specs.declared.view.View.{View}
 use Rattle.turn_lock.specs.declared.view.Phase.TheVariants.{Idle}
@@ -19,10 +19,10 @@ use Rattle.turn_lock.proofs.Keeping as keeping
 module _ {S : Type 0} (stands_for : S → Opening → Type 0) (book : S → Book) where
   module _ (id who parts : ℕ) (v : View) (idle : v.phase ≡ Idle) (some_parts : parts ≤ v.parts) (kept_parts : length v.own ≤ v.parts - parts) where
     abbrev left : View
-    left = with_parts (v.parts - parts) v
+    left = less_parts parts v
 
     abbrev right : View
-    right = newcomer who v.opening v.seen parts
+    right = newcomer_beside v who parts
 
     module _ (s : State (Option S) View) (r : Kept stands_for book s) (at : get_elem? s.views id ≡ some v) where
       abbrev views : List View

@@ -1,4 +1,4 @@
-use Rattle.turn_lock.proofs.turns.Turns.note.Given as goal
+use Rattle.turn_lock.proofs.table.Turns.note.Given as goal
 
 -- what is noted is the value's
 abbrev pub ghosts-note_as : goal.ghosts-note_as

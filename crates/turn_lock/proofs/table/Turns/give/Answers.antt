@@ -2,7 +2,7 @@ use Rattle.std.proofs.Common.{rules, ◌≡◌, [], ◌∷◌, Some, None, refl,
 use Rattle.atomic_table.specs.Table.{rest}
 use Rattle.turn_lock.specs.declared.view.Phase.TheVariants.{Idle}
 use Rattle.turn_lock.proofs.Turning.{ends_turn}
-use Rattle.turn_lock.proofs.turns.Turns.give.Goals as goal
+use Rattle.turn_lock.proofs.table.Turns.give.Goals as goal
 
 -- the value lies in its slot, and the seat is as it was
 pub store-requires : goal.store-requires
@@ -11,8 +11,7 @@ store-requires g c =
     let turn = c.requires.turn in
     let value = c.requires.value in
     let stands_for = g.S.Booked.stands_for in
-    let slot = ap (λ m. m.1) e ∙ ap (λ l. (0, Some c.args.held.state) ∷ rest l) turn.out in
-    (
+    let slot = ap (λ m. m.1) e ∙ ap (λ l. (0, Some c.args.held.state) ∷ rest l) turn.out in (
       search rules,
       search rules,
       ends_turn stands_for g.S.Booked.book Idle _ _ _ _ c.args.held.state refl refl (ap (λ m. m.0.phase) e ∙ turn.loaded) slot

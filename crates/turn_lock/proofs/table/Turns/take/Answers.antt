@@ -1,6 +1,6 @@
 use Rattle.std.proofs.Common.{rules}
 use Rattle.turn_lock.proofs.Waiting.{waits_first, waits_more, has_turn}
-use Rattle.turn_lock.proofs.turns.Turns.take.Goals as goal
+use Rattle.turn_lock.proofs.table.Turns.take.Goals as goal
 
 pub loop-init : goal.loop-init
 loop-init g c = (search rules, search rules, waits_first _ _ c.requires)

@@ -1,6 +1,6 @@
 use Rattle.std.proofs.Common.{rules}
 use Rattle.turn_lock.proofs.Noting.{notes_turn}
-use Rattle.turn_lock.proofs.turns.Turns.note_as.Goals as goal
+use Rattle.turn_lock.proofs.table.Turns.note_as.Goals as goal
 
 pub store-requires : goal.store-requires
 store-requires g c =
