@@ -5,7 +5,7 @@ use mathlib.Core.List.{IsPrefix}
 use Rattle.kv_model.specs.declared.call.Entry.{Entry}
 use Rattle.kv_model.specs.Opening.{Opening}
 use Rattle.turn_lock.specs.Views.{newcomer, less_parts, with_seen, longer, shorter_of, joined}
-use Rattle.turn_lock.specs.Passes.{BothBegin, HasHeard, HaveMet}
+use Rattle.turn_lock.specs.Passes.{BothBegin, HasHeard, HaveMetAs}
 use Rattle.turn_lock.specs.declared.view.View.{View}
 use Rattle.turn_lock.proofs.Prefixes.{whole_begins, all_of_it, longer_is}
 
@@ -55,7 +55,7 @@ longer-swap xs ys begin =
 pub longer-whole : (xs ys : Log) → IsPrefix xs ys → longer xs ys ≡ ys
 longer-whole xs ys p = longer_is (λ l. l ≡ ys) xs ys (λ _. refl) (λ more. all_of_it xs ys p more) (ltb (length xs) (length ys)) refl
 
-pub have_met : (v w v' w' : View) → HasHeard w v.seen w' → HasHeard v w'.seen v' → HaveMet v w v' w'
+pub have_met : (v w v' w' : View) → HasHeard w v.seen w' → HasHeard v w'.seen v' → HaveMetAs v w v' w'
 have_met v w v' w' to back =
     let swap : longer w.seen v.seen ≡ longer v.seen w.seen = longer-swap v.seen w.seen to.1 in
     let told : w'.seen ≡ longer v.seen w.seen = ap (λ (u : View). u.seen) to.0 ∙ swap in

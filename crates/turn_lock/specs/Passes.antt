@@ -41,15 +41,22 @@ HasMissed old word new = (word ≡ 1) × (new ≡ missed word old)
 abbrev pub BothBegin : List Entry → List Entry → List Entry → Type 0
 BothBegin xs ys zs = IsPrefix xs zs × IsPrefix ys zs
 
+-- what two passes have seen begins what a third has
+abbrev pub HasBoth : View → View → View → Type 0
+HasBoth v w u = BothBegin v.seen w.seen u.seen
+
 -- a pass has seen what it had seen, or what it was told, and both begin what it has seen
 abbrev pub HasHeard : View → List Entry → View → Type 0
 HasHeard old told new = (new ≡ with_seen (longer old.seen told) old) × BothBegin old.seen told (longer old.seen told)
 
 -- both have seen the longer of what they had seen, which begins with either
-pub record HaveMet (v w v' w' : View) : Type 0 where
+pub record HaveMetAs (v w v' w' : View) : Type 0 where
   pub begins : BothBegin v.seen w.seen (longer v.seen w.seen)
   pub one : v' ≡ with_seen (longer v.seen w.seen) v
   pub other : w' ≡ with_seen (longer v.seen w.seen) w
+
+abbrev pub HaveMet : {S : Type 0} → Pass S → Pass S → Pass S → Pass S → Type 0
+HaveMet one other one' other' = HaveMetAs (view_of one) (view_of other) (view_of one') (view_of other')
 
 module _ {S : Type 0} (stands_for : S → Opening → Type 0) (book : S → Book) where
   -- the turn was taken: the pass has seen the value's history, which begins with what it had seen. The value has the
@@ -62,8 +69,8 @@ module _ {S : Type 0} (stands_for : S → Opening → Type 0) (book : S → Book
     pub proper : IsProper new
 
   -- the same, after any number of exchanges that found the turn taken
-  abbrev pub HasTurnLater : View → S → View → Type 0
-  HasTurnLater old x new = (found : List ℕ) × HasTurn (with_found found old) x new
+  abbrev pub HasTurnLater : Pass S → S → Pass S → Type 0
+  HasTurnLater old x new = (found : List ℕ) × HasTurn (with_found found (view_of old)) x (view_of new)
 
   -- the value may be noted by a pass at its turn
   pub record MayNote (v : View) (x : S) : Type 0 where

@@ -1,4 +1,5 @@
-//! Turns: one value that several callers use in turn, each with a pass that knows the history so far.
+//! Turns: one value that several callers use in turn, each with a pass that knows the history so
+//! far.
 #![tactic(auto)]
 
 mod booked;

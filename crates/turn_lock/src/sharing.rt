@@ -1,10 +1,11 @@
-// Passes for other threads: how one is split off, taken in again, and how two tell each other what they have seen.
+// Passes for other threads: how one is split off, taken in again, and how two tell each other what
+// they have seen.
 ghost use Rattle.std.specs.Prelude.{◌≡◌, ◌+◌, ◌<◌, ◌≤◌, [], length};
 ghost use Rattle.turn_lock.specs.Views.{joined, less_parts, newcomer_beside};
 ghost use Rattle.turn_lock.specs.Steps.{IsProper};
 ghost use Rattle.turn_lock.specs.Tables.{table_of};
 ghost use Rattle.turn_lock.specs.Passes.{view_of, IsIdle, IsIdleSeat};
-ghost use Rattle.turn_lock.specs.Passes.{BothBegin, HasHeard, HaveMet};
+ghost use Rattle.turn_lock.specs.Passes.{HasBoth, HasHeard, HaveMet};
 ghost use Rattle.turn_lock.specs.declared.view.Phase.TheVariants.{Idle};
 
 use crate::booked::Booked;
@@ -16,8 +17,8 @@ use atomic_table::Seat;
 use std::marker::Brand;
 
 impl<S: Booked> Turns<S> {
-    /// A pass for another thread, under a number, which has seen the same and owns nothing. It gets `parts` of the
-    /// old one's parts.
+    /// A pass for another thread, under a number, which has seen the same and owns nothing. It gets
+    /// `parts` of the old one's parts.
     pub fn split(&self, pass: &mut Pass<S>, who: u8, parts: u32) -> Pass<S>
         requires idle { IsIdle (table_of self.now) pass.old }
         requires some { 1 ≤ parts }
@@ -47,21 +48,22 @@ impl<S: Booked> Turns<S> {
         requires table { seat.old.table_id ≡ table_of self.now }
         requires idle { seat.old.me.0.phase ≡ Idle }
         requires parts { length seat.old.me.0.own + H.parts ≤ seat.old.me.0.parts }
-        ensures tables { (seat.new.table_id ≡ seat.old.table_id) × (result.table_id ≡ seat.old.table_id) }
+        ensures old_table { seat.new.table_id ≡ seat.old.table_id }
+        ensures new_table { result.table_id ≡ seat.old.table_id }
         ensures old { seat.new.me ≡ (less_parts H.parts seat.old.me.0, seat.old.me.1) }
         ensures new { result.me ≡ (newcomer_beside seat.old.me.0 H.who H.parts, []) }
     {
         self.table.shared.split_seat::<Share<H>>(seat)
     }
 
-    /// Takes another pass into this one, which then has seen what either had, owns what both owned, and has the parts
-    /// and the marks of both.
+    /// Takes another pass into this one, which then has seen what either had, owns what both owned,
+    /// and has the parts and the marks of both.
     pub fn join(&self, into: &mut Pass<S>, other: Pass<S>)
         requires into { IsIdle (table_of self.now) into.old }
         requires other { IsIdle (table_of self.now) other }
         ensures idle { IsIdle (table_of self.now) into.new }
         ensures view { view_of into.new ≡ joined (view_of into.old) (view_of other) }
-        ensures begins { BothBegin (view_of into.old).seen (view_of other).seen (view_of into.new).seen }
+        ensures begins { HasBoth (view_of into.old) (view_of other) (view_of into.new) }
         ensures proper { IsProper (view_of into.new) }
     {
         let Pass {
@@ -82,20 +84,20 @@ impl<S: Booked> Turns<S> {
         requires other { IsIdleSeat (table_of self.now) other }
         ensures seat { IsIdleSeat (table_of self.now) seat.new }
         ensures view { seat.new.me.0 ≡ joined seat.old.me.0 other.me.0 }
-        ensures begins { BothBegin seat.old.me.0.seen other.me.0.seen seat.new.me.0.seen }
+        ensures begins { HasBoth seat.old.me.0 other.me.0 seat.new.me.0 }
         ensures proper { IsProper seat.new.me.0 }
     {
         self.table.shared.join_seat::<Unite>(seat, other);
         self.table.shared.load::<Look>(seat, LENGTH);
     }
 
-    /// Two passes tell each other what they have seen: both have then seen one list, which begins with what each had
-    /// seen. It waits for nobody.
+    /// Two passes tell each other what they have seen: both have then seen one list, which begins
+    /// with what each had seen. It waits for nobody.
     pub fn meet(&self, one: &mut Pass<S>, other: &mut Pass<S>)
         requires one { IsIdle (table_of self.now) one.old }
         requires other { IsIdle (table_of self.now) other.old }
         ensures idle { IsIdle (table_of self.now) one.new × IsIdle (table_of self.now) other.new }
-        ensures met { HaveMet (view_of one.old) (view_of other.old) (view_of one.new) (view_of other.new) }
+        ensures met { HaveMet one.old other.old one.new other.new }
     {
         self.tell(one, other);
         self.tell(other, one);

@@ -24,8 +24,8 @@ use std::sync::Wait;
 const ALL: u32 = 65_536;
 
 impl<S: Booked> Turns<S> {
-    /// Puts a value behind a turn, and gives the first pass, which has the number 0 and all 65,536 parts. It refuses
-    /// for want of memory alone, and gives the value back.
+    /// Puts a value behind a turn, and gives the first pass, which has the number 0 and all 65,536
+    /// parts. It refuses for want of memory alone, and gives the value back.
     pub fn new(alloc: Global, state: S) -> Result<(Turns<S>, Pass<S>), (S, NoMemory)>
         requires empty { (S.book state).entries ≡ [] }
         requires none { (S.book state).quitter ≡ None }
@@ -54,7 +54,8 @@ impl<S: Booked> Turns<S> {
         }
     }
 
-    /// Takes the turn by one exchange. `Taken` comes exactly where that exchange found the turn taken.
+    /// Takes the turn by one exchange. `Taken` comes exactly where that exchange found the turn
+    /// taken.
     pub fn try_take(&self, pass: &mut Pass<S>) -> Result<Held<S>, Taken>
         requires { IsIdle (table_of self.now) pass.old }
         ensures turn { OnOk result (IsAtTurn (table_of self.now) pass.new) }
@@ -77,7 +78,7 @@ impl<S: Booked> Turns<S> {
     pub fn take<R: Wait>(&self, rt: &R, pass: &mut Pass<S>) -> Held<S>
         requires { IsIdle (table_of self.now) pass.old }
         ensures turn { IsAtTurn (table_of self.now) pass.new }
-        ensures value { HasTurnLater S.stands_for S.book (view_of pass.old) result.state (view_of pass.new) }
+        ensures value { HasTurnLater S.stands_for S.book pass.old result.state pass.new }
     {
         for _ in rt.forever() {
             match self.try_take(pass) {
@@ -88,9 +89,9 @@ impl<S: Booked> Turns<S> {
         unreachable!()
     }
 
-    /// Notes the value's history as it now is. It has no entry more than when it was last noted, or one more: that
-    /// one's position is then the pass's own. Where the value now names the pass's caller as the first that quit,
-    /// and named nobody before, the pass has its mark.
+    /// Notes the value's history as it now is. It has no entry more than when it was last noted, or
+    /// one more: that one's position is then the pass's own. Where the value now names the pass's
+    /// caller as the first that quit, and named nobody before, the pass has its mark.
     pub fn note(&self, pass: &mut Pass<S>, held: &mut Held<S>)
         requires turn { IsAtTurn (table_of self.now) pass.old }
         requires value { MayNote S.stands_for S.book (view_of pass.old) held.old.state }
@@ -137,8 +138,8 @@ impl<S: Booked> Turns<S> {
         self.table.shared.wake_one(TURN);
     }
 
-    /// Takes the last turn, and gives the value back. Where the pass has all parts, each position of the value's
-    /// history is the pass's own.
+    /// Takes the last turn, and gives the value back. Where the pass has all parts, each position
+    /// of the value's history is the pass's own.
     pub fn close<R: Wait>(self, rt: &R, mut pass: Pass<S>) -> S
         requires { IsIdle (table_of self) pass }
         ensures { HasClosed S.stands_for S.book (view_of pass) result }

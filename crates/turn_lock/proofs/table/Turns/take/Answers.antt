@@ -10,7 +10,7 @@ try_take-requires g c = c.loop.invariant.2.idle
 
 pub returns-in-Ok-clause-value : goal.returns-in-Ok-clause-value
 returns-in-Ok-clause-value g c =
-    has_turn g.S.Booked.stands_for g.S.Booked.book _ _ _ _ _ c.loop.invariant.2 c.in-Ok.ensures.value
+    has_turn g.S.Booked.stands_for g.S.Booked.book _ c.args.pass.now c.loop.pass c.in-Ok.held.state c.try_take.new.pass c.loop.invariant.2 c.in-Ok.ensures.value
 
 pub loop-preserved : goal.loop-preserved
 loop-preserved g c =
