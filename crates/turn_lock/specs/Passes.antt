@@ -59,6 +59,12 @@ abbrev pub HaveMet : {S : Type 0} → Pass S → Pass S → Pass S → Pass S �
 HaveMet one other one' other' = HaveMetAs (view_of one) (view_of other) (view_of one') (view_of other')
 
 module _ {S : Type 0} (stands_for : S → Opening → Type 0) (book : S → Book) where
+  -- the value is as last noted
+  pub record IsAsNoted (v : View) (x : S) : Type 0 where
+    pub stands : stands_for x v.opening
+    pub entries : (book x).entries ≡ v.noted
+    pub first : (book x).quitter ≡ v.quitter
+
   -- the turn was taken: the pass has seen the value's history, which begins with what it had seen. The value has the
   -- pass's opening, and names each mark of the pass as the first that quit
   pub record HasTurn (old : View) (x : S) (new : View) : Type 0 where
@@ -66,6 +72,7 @@ module _ {S : Type 0} (stands_for : S → Opening → Type 0) (book : S → Book
     pub stands : stands_for x old.opening
     pub seen : IsPrefix old.seen (book x).entries
     pub marks : (who : ℕ) → 0 < times who old.marks → (book x).quitter ≡ Some who
+    pub noted : IsAsNoted new x
     pub proper : IsProper new
 
   -- the same, after any number of exchanges that found the turn taken
@@ -76,12 +83,6 @@ module _ {S : Type 0} (stands_for : S → Opening → Type 0) (book : S → Book
   pub record MayNote (v : View) (x : S) : Type 0 where
     pub stands : stands_for x v.opening
     pub next : IsNext v (book x)
-
-  -- the value is as last noted
-  pub record AreNoted (v : View) (x : S) : Type 0 where
-    pub stands : stands_for x v.opening
-    pub entries : (book x).entries ≡ v.noted
-    pub first : (book x).quitter ≡ v.quitter
 
   -- the value that comes out at the end: of a pass that has all parts, each position of the history is its own, once
   pub record HasClosed (v : View) (x : S) : Type 0 where

@@ -15,3 +15,6 @@ pub use booked::Booked;
 pub use held::{Held, Taken};
 pub use pass::Pass;
 pub use table::Turns;
+
+#[cfg(test)]
+mod tests;

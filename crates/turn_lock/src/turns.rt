@@ -5,7 +5,7 @@ ghost use Rattle.turn_lock.specs.Views.{first_view, in_phase, noted};
 ghost use Rattle.turn_lock.specs.Steps.{IsNext, IsProper};
 ghost use Rattle.turn_lock.specs.Tables.{table_of};
 ghost use Rattle.turn_lock.specs.Passes.{view_of, IsAtTurn, IsIdle};
-ghost use Rattle.turn_lock.specs.Passes.{AreNoted, HasClosed, HasMissed, HasTurn, HasTurnLater, MayNote};
+ghost use Rattle.turn_lock.specs.Passes.{IsAsNoted, HasClosed, HasMissed, HasTurn, HasTurnLater, MayNote};
 ghost use Rattle.turn_lock.specs.declared.view.Phase.TheVariants.{Closing, Idle, Loaded};
 
 use crate::booked::Booked;
@@ -98,6 +98,7 @@ impl<S: Booked> Turns<S> {
         ensures turn { IsAtTurn (table_of self.now) pass.new }
         ensures view { view_of pass.new ≡ noted (S.book held.old.state) (view_of pass.old) }
         ensures value { held.new.state ≡ held.old.state }
+        ensures noted { IsAsNoted S.stands_for S.book (view_of pass.new) held.new.state }
         ensures proper { IsProper (view_of pass.new) }
     {
         let count = held.state.count();
@@ -124,7 +125,7 @@ impl<S: Booked> Turns<S> {
     /// Gives the turn back, with the value as it was last noted.
     pub fn give(&self, pass: &mut Pass<S>, held: Held<S>)
         requires turn { IsAtTurn (table_of self.now) pass.old }
-        requires value { AreNoted S.stands_for S.book (view_of pass.old) held.state }
+        requires value { IsAsNoted S.stands_for S.book (view_of pass.old) held.state }
         ensures idle { IsIdle (table_of self.now) pass.new }
         ensures view { view_of pass.new ≡ in_phase Idle (view_of pass.old) }
     {
