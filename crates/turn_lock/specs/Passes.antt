@@ -26,6 +26,11 @@ pub record IsIdleSeat {S : Type 0} (table : TableId) (seat : Seat (Option S) Vie
 abbrev pub IsIdle : {S : Type 0} → TableId → Pass S → Type 0
 IsIdle table pass = IsIdleSeat table pass.seat
 
+-- a pass of this table that hasn't the turn, and has parts left for so many entries
+pub record IsReady {S : Type 0} (table : TableId) (entries : ℕ) (pass : Pass S) : Type 0 where
+  pub idle : IsIdle table pass
+  pub room : length (view_of pass).own + entries ≤ (view_of pass).parts
+
 -- a pass of this table that has the turn, and the value is out
 pub record IsAtTurn {S : Type 0} (table : TableId) (pass : Pass S) : Type 0 where
   pub of_table : pass.seat.table_id ≡ table

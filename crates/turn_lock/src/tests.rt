@@ -1,6 +1,6 @@
 ghost use Rattle.std.specs.Prelude.{◌≡◌, ◌+◌, ◌<◌, ◌≤◌, [], length, IfOk};
 ghost use Rattle.turn_lock.specs.Tables.{table_of};
-ghost use Rattle.turn_lock.specs.Passes.{view_of, IsAsNoted, IsAtTurn, IsIdle};
+ghost use Rattle.turn_lock.specs.Passes.{view_of, IsAsNoted, IsAtTurn, IsIdle, IsReady};
 
 use super::*;
 use kv_model::{Call, Entry, Reply};
@@ -58,8 +58,7 @@ impl Diary {
 
 fn write_page(turns: &Turns<Diary>, pass: &mut Pass<Diary>, mut held: Held<Diary>)
     requires turn { IsAtTurn (table_of turns.now) pass.old }
-    requires value {
-        IsAsNoted ⟦<Diary as Booked>⟧.stands_for ⟦<Diary as Booked>⟧.book (view_of pass.old) held.state }
+    requires value { IsAsNoted ⟦<Diary as Booked>⟧.stands_for ⟦<Diary as Booked>⟧.book (view_of pass.old) held.state }
     requires room { length (view_of pass.old).own < (view_of pass.old).parts }
     ensures idle { IsIdle (table_of turns.now) pass.new }
     ensures parts { (view_of pass.new).parts ≡ (view_of pass.old).parts }
@@ -78,8 +77,7 @@ fn write_pages<R: Wait>(
     mut pass: Pass<Diary>,
     pages: u32,
 ) -> Pass<Diary>
-    requires idle { IsIdle (table_of turns.now) pass }
-    requires room { length (view_of pass).own + pages ≤ (view_of pass).parts }
+    requires { IsReady (table_of turns.now) pages pass }
     ensures { IsIdle (table_of turns.now) result }
 {
     for _round in 0..pages {
@@ -96,24 +94,53 @@ fn two_write<R: Threads + Wait + Sync>(
     one: Pass<Diary>,
     other: Pass<Diary>,
 ) -> (Pass<Diary>, Pass<Diary>)
-    requires one { IsIdle (table_of turns.now) one }
-    requires other { IsIdle (table_of turns.now) other }
-    requires one_room { length (view_of one).own + 250 ≤ (view_of one).parts }
-    requires other_room { length (view_of other).own + 250 ≤ (view_of other).parts }
+    requires one { IsReady (table_of turns.now) 250 one }
+    requires other { IsReady (table_of turns.now) 250 other }
     ensures one { IsIdle (table_of turns.now) result.0 }
     ensures other { IsIdle (table_of turns.now) result.1 }
 {
     join(
         rt,
         || -> Pass<Diary>
-            requires { IsIdle (table_of turns.now) one × (length (view_of one).own + 250 ≤ (view_of one).parts) }
+            requires { IsReady (table_of turns.now) 250 one }
             ensures { IsIdle (table_of turns.entry.now) result }
         { write_pages(rt, turns, one, 250) },
         || -> Pass<Diary>
-            requires { IsIdle (table_of turns.now) other × (length (view_of other).own + 250 ≤ (view_of other).parts) }
+            requires { IsReady (table_of turns.now) 250 other }
             ensures { IsIdle (table_of turns.entry.now) result }
         { write_pages(rt, turns, other, 250) },
     )
+}
+
+// Four callers, with 250 pages each. Their passes come back as one.
+fn four_write<R: Threads + Wait + Sync>(
+    rt: &R,
+    turns: &Turns<Diary>,
+    mut one: Pass<Diary>,
+) -> Pass<Diary>
+    requires idle { IsIdle (table_of turns.now) one }
+    requires parts { (view_of one).parts ≡ 65536 }
+    requires own { (view_of one).own ≡ [] }
+    ensures { IsIdle (table_of turns.now) result }
+{
+    let two = turns.split(&mut one, 1, 250);
+    let three = turns.split(&mut one, 2, 250);
+    let four = turns.split(&mut one, 3, 250);
+    let ((mut one, two), (three, four)) = join(
+        rt,
+        || -> (Pass<Diary>, Pass<Diary>)
+            requires { IsReady (table_of turns.now) 250 one × IsReady (table_of turns.now) 250 two }
+            ensures { IsIdle (table_of turns.entry.now) result.0 × IsIdle (table_of turns.entry.now) result.1 }
+        { two_write(rt, turns, one, two) },
+        || -> (Pass<Diary>, Pass<Diary>)
+            requires { IsReady (table_of turns.now) 250 three × IsReady (table_of turns.now) 250 four }
+            ensures { IsIdle (table_of turns.entry.now) result.0 × IsIdle (table_of turns.entry.now) result.1 }
+        { two_write(rt, turns, three, four) },
+    );
+    turns.join(&mut one, two);
+    turns.join(&mut one, three);
+    turns.join(&mut one, four);
+    one
 }
 
 fn opened(alloc: Global) -> Result<(Turns<Diary>, Pass<Diary>), Fail>
@@ -145,22 +172,37 @@ fn callers(alloc: Global, diary: &Diary) -> Result<Vec<u8>, Fail> {
 #[test]
 fn passes_split_meet_and_join(rt: HostRuntime) -> Result<(), Fail> {
     let (turns, mut one) = opened(rt.alloc())?;
-    assert_eq!(rt; (one.who(), one.seen(), one.made(), one.parts()), (0, 0, 0, 65_536));
+    assert_eq!(rt;
+        (one.who(), one.seen(), one.made(), one.parts()),
+        (0, 0, 0, 65_536)
+    );
     let mut other = turns.split(&mut one, 7, 100);
-    assert_eq!(rt; (other.who(), other.made(), other.parts(), one.parts()), (7, 0, 100, 65_436));
+    assert_eq!(rt;
+        (other.who(), other.made(), other.parts(), one.parts()),
+        (7, 0, 100, 65_436)
+    );
 
     let held = turns.take(&rt, &mut one);
     write_page(&turns, &mut one, held);
     let held = turns.take(&rt, &mut other);
     write_page(&turns, &mut other, held);
-    assert_eq!(rt; (one.seen(), one.made(), other.seen(), other.made()), (1, 1, 2, 1));
+    assert_eq!(rt;
+        (one.seen(), one.made(), other.seen(), other.made()),
+        (1, 1, 2, 1)
+    );
 
     turns.meet(&mut one, &mut other);
-    assert_eq!(rt; (one.seen(), one.made(), other.seen(), other.made()), (2, 1, 2, 1));
+    assert_eq!(rt;
+        (one.seen(), one.made(), other.seen(), other.made()),
+        (2, 1, 2, 1)
+    );
     assert_eq!(rt; (one.parts(), other.parts()), (65_436, 100));
 
     turns.join(&mut one, other);
-    assert_eq!(rt; (one.who(), one.seen(), one.made(), one.parts()), (0, 2, 2, 65_536));
+    assert_eq!(rt;
+        (one.who(), one.seen(), one.made(), one.parts()),
+        (0, 2, 2, 65_536)
+    );
     let diary = turns.close(&rt, one);
     assert_eq!(rt; callers(rt.alloc(), &diary)?.as_slice(), [0, 7].as_slice());
     Ok(())
@@ -192,5 +234,24 @@ fn a_taken_turn_is_found(rt: HostRuntime) -> Result<(), Fail> {
     turns.join(&mut other, one);
     let diary = turns.close(&rt, other);
     assert_eq!(rt; callers(rt.alloc(), &diary)?.as_slice(), [0, 1].as_slice());
+    Ok(())
+}
+
+// Each page has the number of its place, and each caller wrote its 250.
+#[test]
+fn four_threads_write_one_diary(rt: HostRuntime) -> Result<(), Fail> {
+    let (turns, one) = opened(rt.alloc())?;
+    let one = four_write(&rt, &turns, one);
+    assert_eq!(rt; (one.made(), one.parts()), (1_000, 65_536));
+    assert!(rt; one.seen() <= 1_000);
+    let diary = turns.close(&rt, one);
+    let mut written = [0u32; 4];
+    for (place, page) in diary.pages.iter().enumerate() {
+        assert_eq!(rt; page.seq as usize, place + 1);
+        if let Some(count) = written.get_mut(page.who as usize) {
+            *count = count.saturating_add(1);
+        }
+    }
+    assert_eq!(rt; written, [250, 250, 250, 250]);
     Ok(())
 }
