@@ -27,9 +27,14 @@ module _ {S : Type 0} (stands_for : S → Opening → Type 0) (book : S → Book
     no_others : v.parts ≡ ALL → (p : ℕ) → total (λ (u : View). times p u.own) others ≡ 0
     no_others all p =
         let room : (k : ℕ) (u : View) → get_elem? others k ≡ some u → length u.own ≤ u.parts =
-            keeping.each-set s.views id spent spent (λ u. length u.own ≤ u.parts) (λ k u there. (r.each k u there).room) (omega arith) in
-        omega (arith, all, r.parts, total-set (λ (u : View). u.parts) s.views id v spent at,
-            total-le (λ (u : View). times p u.own) (λ u. u.parts) others (λ k u there. omega (arith, room k u there, times-length p u.own)))
+        keeping.each-set s.views id spent spent (λ u. length u.own ≤ u.parts) (λ k u there. (r.each k u there).room) (omega arith) in
+        omega (
+          arith,
+          all,
+          r.parts,
+          total-set (λ (u : View). u.parts) s.views id v spent at,
+          total-le (λ (u : View). times p u.own) (λ u. u.parts) others (λ k u there. omega (arith, room k u there, times-length p u.own)),
+        )
 
     pub closes : v.phase ≡ Closing → (x : S) × (get_elem? s.homes 0 ≡ some (some (Some x))) × HasClosed stands_for book v x
     closes closing =

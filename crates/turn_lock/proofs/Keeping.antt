@@ -1,5 +1,5 @@
 -- One view changes, and the history stays: the rule stays too.
-use Rattle.std.proofs.Common.{◌≡◌, ◌≢◌, ◌⊎◌, ⊎_elim, ℕ, ◌+◌, ◌-◌, ◌≤◌, ◌<◌, eqb, List, [], ◌∷◌, length, set, Option, Some, None, IfSome, refl, sym, ap, ◌∙◌, subst, arith}
+use Rattle.std.proofs.Common.{◌≡◌, ◌≢◌, ◌⊎◌, ⊎_elim, ℕ, zero, suc, ◌+◌, ◌-◌, ◌≤◌, ◌<◌, eqb, List, [], ◌∷◌, length, set, Option, Some, None, IfSome, refl, sym, ap, ◌∙◌, subst, arith}
 use mathlib.Core.Option.{some}
 use mathlib.Core.Option as maybe
 use lib.ListN.{get_elem?}
@@ -12,6 +12,8 @@ use Rattle.turn_lock.specs.Totals.{total, times, once}
 use Rattle.turn_lock.specs.Views.{ALL}
 use Rattle.turn_lock.specs.Rule.{out, last, live, has_all, busy, Knows, Fits, Kept}
 use Rattle.turn_lock.specs.declared.view.View.{View}
+use Rattle.turn_lock.specs.Steps.{IsProper}
+use Rattle.turn_lock.proofs.Prefixes.{begins_length}
 use Rattle.turn_lock.proofs.Totals.{total-set, total-at, total-le}
 
 -- a view in place of another that knows as much, in the totals
@@ -20,6 +22,11 @@ pub record IsAsMuch (log : List Entry) (v w : View) : Type 0 where
   pub parts : w.parts ≡ v.parts
   pub marks : w.marks ≡ v.marks
   pub whole : has_all log v ≤ has_all log w
+
+seen-once : (p n all seen : ℕ) → n ≤ once p all → (0 < n → p ≤ seen) → n ≤ once p seen
+seen-once p zero all seen le known = omega arith
+seen-once zero (suc n) all seen le known = absurd (omega arith)
+seen-once (suc k) (suc n) all seen le known = omega (arith, known (omega arith))
 
 -- what every view has, where one is changed
 pub each-set : (views : List View) (id : ℕ) (v w : View) (P : View → Type 0) → ((k : ℕ) (u : View) → get_elem? views k ≡ some u → P u) → P w
@@ -70,3 +77,13 @@ module _ {S : Type 0} (stands_for : S → Opening → Type 0) (book : S → Book
   -- the history is no longer than all parts
   pub short : (s : St) (r : Kept stands_for book s) → length r.log ≤ ALL
   short s r = omega (arith, r.made, r.parts, total-le (λ (u : View). length u.own) (λ u. u.parts) s.views (λ k u at. (r.each k u at).room))
+
+  -- what the rule says of each view by itself
+  pub proper : (s : St) (r : Kept stands_for book s) (id : ℕ) (v : View) → get_elem? s.views id ≡ some v → IsProper v
+  proper s r id v at =
+      let k : Knows r.opening r.log r.quitter v = r.each id v at in record {
+        parts = omega (arith, r.parts, total-at (λ (u : View). u.parts) s.views id v at);
+        room = k.room;
+        seen = omega (arith, begins_length v.seen r.log k.seen, short s r);
+        own = λ p. seen-once p (times p v.own) (length r.log) (length v.seen) (omega (arith, r.owned p, total-at (λ (u : View). times p u.own) s.views id v at)) (k.own p);
+      }

@@ -3,7 +3,7 @@ pub mod Keeping
 pub mod Meeting
 pub mod Noting
 pub mod Prefixes
-pub mod Sharing
+pub mod Splitting
 pub mod Starting
 pub mod Totals
 pub mod Turning

@@ -4,8 +4,8 @@ use Rattle.std.proofs.lemmas.Bool.{ltb-true, ltb-false}
 use mathlib.Core.List.{IsPrefix}
 use Rattle.kv_model.specs.declared.call.Entry.{Entry}
 use Rattle.kv_model.specs.Opening.{Opening}
-use Rattle.turn_lock.specs.Views.{newcomer, with_parts, with_seen, longer, shorter_of, joined}
-use Rattle.turn_lock.specs.Passes.{BothBegin, HasHeard, HaveMet}
+use Rattle.turn_lock.specs.Views.{newcomer, less_parts, with_seen, longer, shorter_of, joined}
+use Rattle.turn_lock.specs.Passes.{BothBegin, HasHeard, HaveMetAs}
 use Rattle.turn_lock.specs.declared.view.View.{View}
 use Rattle.turn_lock.proofs.Prefixes.{whole_begins, all_of_it, longer_is}
 
@@ -38,16 +38,16 @@ joined-newcomer v who opening seen =
     let parts : v.parts + 0 ≡ v.parts = omega arith in
     λ i. record (with_seen (longer v.seen seen) v) { own = own i; marks = marks i; parts = parts i }
 
-pub no_parts : (v : View) → with_parts (v.parts - 0) v ≡ v
+pub no_parts : (v : View) → less_parts 0 v ≡ v
 no_parts v = let parts : v.parts - 0 ≡ v.parts = omega arith in λ i. record v { parts = parts i }
 
 -- which of two lists is tried first makes no difference where both begin the longer
 pub longer-swap : (xs ys : Log) → BothBegin ys xs (longer ys xs) → longer ys xs ≡ longer xs ys
 longer-swap xs ys begin =
     longer_is (λ l. l ≡ longer xs ys) ys xs
-        (λ less. longer_is (λ m. xs ≡ m) xs ys (λ more. absurd (omega arith)) (λ _. refl) (ltb (length xs) (length ys)) refl)
-        (λ more. longer_is (λ m. ys ≡ m) xs ys (λ _. refl) (λ no_more. sym (all_of_it xs ys (begins_first more) no_more)) (ltb (length xs) (length ys)) refl)
-        (ltb (length ys) (length xs)) refl
+    (λ less. longer_is (λ m. xs ≡ m) xs ys (λ more. absurd (omega arith)) (λ _. refl) (ltb (length xs) (length ys)) refl)
+    (λ more. longer_is (λ m. ys ≡ m) xs ys (λ _. refl) (λ no_more. sym (all_of_it xs ys (begins_first more) no_more)) (ltb (length xs) (length ys)) refl)
+    (ltb (length ys) (length xs)) refl
   where
     begins_first : length xs ≤ length ys → IsPrefix xs ys
     begins_first le = subst (IsPrefix xs) (longer_is (λ l. l ≡ ys) ys xs (λ less. absurd (omega arith)) (λ _. refl) (ltb (length ys) (length xs)) refl) begin.1
@@ -55,7 +55,7 @@ longer-swap xs ys begin =
 pub longer-whole : (xs ys : Log) → IsPrefix xs ys → longer xs ys ≡ ys
 longer-whole xs ys p = longer_is (λ l. l ≡ ys) xs ys (λ _. refl) (λ more. all_of_it xs ys p more) (ltb (length xs) (length ys)) refl
 
-pub have_met : (v w v' w' : View) → HasHeard w v.seen w' → HasHeard v w'.seen v' → HaveMet v w v' w'
+pub have_met : (v w v' w' : View) → HasHeard w v.seen w' → HasHeard v w'.seen v' → HaveMetAs v w v' w'
 have_met v w v' w' to back =
     let swap : longer w.seen v.seen ≡ longer v.seen w.seen = longer-swap v.seen w.seen to.1 in
     let told : w'.seen ≡ longer v.seen w.seen = ap (λ (u : View). u.seen) to.0 ∙ swap in

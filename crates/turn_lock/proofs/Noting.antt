@@ -80,8 +80,12 @@ module _ {S : Type 0} (stands_for : S → Opening → Type 0) (book : S → Book
 
   -- no other pass has the turn
   alone : (s : St) (r : Rule s) (id k : ℕ) (v u : View) → get_elem? s.views id ≡ some v → out v.phase ≡ 1 → k ≢ id → get_elem? s.views k ≡ some u → out u.phase ≡ 0
-  alone s r id k v u at is other there = omega (arith, r.one, total-set (λ (x : View). out x.phase) s.views id v spent at,
-      total-at (λ (x : View). out x.phase) (set s.views id spent) k u (set_else s.views id k spent other ∙ there))
+  alone s r id k v u at is other there = omega (
+    arith,
+    r.one,
+    total-set (λ (x : View). out x.phase) s.views id v spent at,
+    total-at (λ (x : View). out x.phase) (set s.views id spent) k u (set_else s.views id k spent other ∙ there),
+  )
 
   pub notes_turn : (b : Book) (slots id n : ℕ) (me : Seated S) → me.0.phase ≡ Loaded → IsNext me.0 b → n ≡ length b.entries → Allows Rule slots id me 1 (λ _. n) (λ _. Notes b me n)
   notes_turn b slots id n me turn next count s r wide at range =
@@ -95,7 +99,7 @@ module _ {S : Type 0} (stands_for : S → Opening → Type 0) (book : S → Book
       let long : length v.noted ≡ length r.log = ap length whole in
       let grows : IsPrefix r.log b.entries = subst (λ l. IsPrefix l b.entries) whole next.entries in
       let gained : Gains (length v.noted) (length b.entries) v w.own = gains (length v.noted) (length b.entries) v (begins_length v.noted b.entries next.entries) next.one next.room k.room
-          (λ p some_own. omega (arith, k.own p some_own, begins_length v.seen r.log k.seen, long)) (ltb (length v.noted) (length b.entries)) refl in
+      (λ p some_own. omega (arith, k.own p some_own, begins_length v.seen r.log k.seen, long)) (ltb (length v.noted) (length b.entries)) refl in
       let knows_first : (m : ℕ) → 0 < times m v.marks → v.quitter ≡ Some m = λ m some_mark. first ∙ k.marks m some_mark in
       let still_first : (m : ℕ) → r.quitter ≡ Some m → b.quitter ≡ Some m = λ m is. stays-first v.who v.quitter b.quitter m next.quitter (first ∙ is) in
       let mine : Knows r.opening b.entries b.quitter w = record {
@@ -109,42 +113,44 @@ module _ {S : Type 0} (stands_for : S → Opening → Type 0) (book : S → Book
         marks = marks-known v.who v.quitter b.quitter v.marks next.quitter knows_first;
       } in
       let theirs : (j : ℕ) (u : View) → j ≢ id → get_elem? s.views j ≡ some u → Knows r.opening b.entries b.quitter u = λ j u other there.
-          let h : Knows r.opening r.log r.quitter u = r.each j u there in
-          let idle : out u.phase ≡ 0 = alone s r id j v u at out_is other there in record {
-            opened = h.opened;
-            seen = begins_within u.seen r.log b.entries h.seen grows;
-            shorter = begins_within u.shorter r.log b.entries h.shorter grows;
-            loaded = λ e. absurd (omega (arith, ap out e, idle));
-            noted = λ some_out. absurd (omega (arith, idle));
-            room = h.room;
-            own = h.own;
-            marks = λ m some_mark. still_first m (h.marks m some_mark);
-          } in
+      let h : Knows r.opening r.log r.quitter u = r.each j u there in
+      let idle : out u.phase ≡ 0 = alone s r id j v u at out_is other there in record {
+        opened = h.opened;
+        seen = begins_within u.seen r.log b.entries h.seen grows;
+        shorter = begins_within u.shorter r.log b.entries h.shorter grows;
+        loaded = λ e. absurd (omega (arith, ap out e, idle));
+        noted = λ some_out. absurd (omega (arith, idle));
+        room = h.room;
+        own = h.own;
+        marks = λ m some_mark. still_first m (h.marks m some_mark);
+      } in
       let here : get_elem? views id ≡ some w = set_at s.views id v w at in
       let now_made : total (λ (u : View). length u.own) views ≡ length b.entries = omega (arith, total-set (λ (u : View). length u.own) s.views id v w at, r.made, gained.long, long) in
       let now_each : (j : ℕ) (u : View) → get_elem? views j ≡ some u → Knows r.opening b.entries b.quitter u = λ j u there.
-          ⊎_elim (λ (t : (j ≡ id) × (w ≡ u)). subst (Knows r.opening b.entries b.quitter) t.1 mine) (λ (t : (j ≢ id) × (get_elem? s.views j ≡ some u)). theirs j u t.0 t.1) (at_set s.views id j w u there) in
+      ⊎_elim (λ (t : (j ≡ id) × (w ≡ u)). subst (Knows r.opening b.entries b.quitter) t.1 mine) (λ (t : (j ≢ id) × (get_elem? s.views j ≡ some u)). theirs j u t.0 t.1) (at_set s.views id j w u there) in
       let now_parts : total (λ (u : View). u.parts) views ≡ ALL = omega (arith, total-set (λ (u : View). u.parts) s.views id v w at, r.parts) in
-      let as_busy : busy views ≡ busy s.views = omega (arith, keeping.busy-set stands_for book s r id v w at) in (
+      let as_busy : busy views ≡ busy s.views = omega (arith, keeping.busy-set stands_for book s r id v w at) in
+      let after : St = record { words = slice_set s.words 1 n; homes = s.homes; views = views } in
+      let now : Rule after = record {
+        opening = r.opening;
+        log = b.entries;
+        quitter = b.quitter;
+        words = ap (λ l. slice_set l 1 n) r.words ∙ (let same = sym as_busy in λ i. same i ∷ count i ∷ []);
+        one = omega (arith, r.one, as_busy);
+        single = r.single;
+        home = λ all_home. absurd (omega (arith, all_home, total-at (λ (u : View). out u.phase) views id w here));
+        each = now_each;
+        whole = omega (arith, total-at (has_all b.entries) views id w here);
+        owned = λ p. omega (arith, total-set (λ (u : View). times p u.own) s.views id v w at, r.owned p, gained.each p, ap (once p) long);
+        made = now_made;
+        parts = now_parts;
+        marked = still-marked v.who v.quitter b.quitter v.marks (λ m. total (λ (u : View). times m u.marks) s.views) (λ m. total (λ (u : View). times m u.marks) views) next.quitter
+            (λ m. total-set (λ (u : View). times m u.marks) s.views id v w at) (λ m. total-at (λ (u : View). times m u.marks) views id w here)
+            (subst (λ q. IfSome q (λ m. 0 < total (λ (u : View). times m u.marks) s.views)) (sym first) r.marked);
+      } in (
         w,
         keeps,
         tt,
-        record {
-          opening = r.opening;
-          log = b.entries;
-          quitter = b.quitter;
-          words = ap (λ l. slice_set l 1 n) r.words ∙ (let same = sym as_busy in λ i. same i ∷ count i ∷ []);
-          one = omega (arith, r.one, as_busy);
-          single = r.single;
-          home = λ all_home. absurd (omega (arith, all_home, total-at (λ (u : View). out u.phase) views id w here));
-          each = now_each;
-          whole = omega (arith, total-at (has_all b.entries) views id w here);
-          owned = λ p. omega (arith, total-set (λ (u : View). times p u.own) s.views id v w at, r.owned p, gained.each p, ap (once p) long);
-          made = now_made;
-          parts = now_parts;
-          marked = still-marked v.who v.quitter b.quitter v.marks (λ m. total (λ (u : View). times m u.marks) s.views) (λ m. total (λ (u : View). times m u.marks) views) next.quitter
-              (λ m. total-set (λ (u : View). times m u.marks) s.views id v w at) (λ m. total-at (λ (u : View). times m u.marks) views id w here)
-              (subst (λ q. IfSome q (λ m. 0 < total (λ (u : View). times m u.marks) s.views)) (sym first) r.marked);
-        },
-        (refl, omega (arith, count, now_made, now_parts, total-le (λ (u : View). length u.own) (λ u. u.parts) views (λ j u there. (now_each j u there).room))),
+        now,
+        (refl, keeping.proper stands_for book after now id w here),
       )

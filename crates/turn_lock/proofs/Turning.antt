@@ -13,11 +13,11 @@ use Rattle.turn_lock.specs.Books.{Book}
 use Rattle.turn_lock.specs.Totals.{total, times}
 use Rattle.turn_lock.specs.Views.{ALL, missed, taken, loaded, settled, in_phase}
 use Rattle.turn_lock.specs.Rule.{out, last, live, has_all, busy, Knows, Fits, Kept}
-use Rattle.turn_lock.specs.Steps.{Seated, IsSmall, Takes, Loads, Looks, Ends, Gets}
+use Rattle.turn_lock.specs.Steps.{Seated, IsProper, Takes, Loads, Looks, Ends, Gets}
 use Rattle.turn_lock.specs.declared.view.View.{View}
 use Rattle.turn_lock.specs.declared.view.Phase.{Phase}
 use Rattle.turn_lock.specs.declared.view.Phase.TheVariants.{Idle, Taken, Loaded, Closing, Spent}
-use Rattle.turn_lock.proofs.Totals.{total-set, total-at}
+use Rattle.turn_lock.proofs.Totals.{set_at, total-set, total-at}
 use Rattle.turn_lock.proofs.Prefixes.{whole_begins, nothing_begins, begins_length, shorter_begins, all_of_it}
 use Rattle.turn_lock.proofs.Keeping.{IsAsMuch, Home}
 use Rattle.turn_lock.proofs.Keeping as keeping
@@ -78,12 +78,19 @@ module _ {S : Type 0} (stands_for : S → Opening → Type 0) (book : S → Book
             (λ all_home. absurd (omega (arith, all_home, total-set (λ u. out u.phase) s.views id v w at)))
             record { own = refl; parts = refl; marks = refl; whole = omega arith }
             (took idle k (book x) fits.entries fits.first),
-        ((λ _. (x, ap (λ l. (0, Some x) ∷ l) empty, record {
-          view = refl;
-          stands = subst (stands_for x) (sym (k.opened (omega (arith, ap live idle)))) fits.stands;
-          seen = subst (IsPrefix v.seen) (sym fits.entries) k.seen;
-          marks = λ who some_mark. fits.first ∙ k.marks who some_mark;
-        })), λ n. absurd (n refl)),
+        (
+          (λ _. (
+            x,
+            ap (λ l. (0, Some x) ∷ l) empty,
+            record {
+              view = refl;
+              stands = subst (stands_for x) (sym (k.opened (omega (arith, ap live idle)))) fits.stands;
+              seen = subst (IsPrefix v.seen) (sym fits.entries) k.seen;
+              marks = λ who some_mark. fits.first ∙ k.marks who some_mark;
+            },
+          )),
+          λ n. absurd (n refl),
+        ),
       )
 
   takes-miss : (s : St) (r : Rule s) (id n : ℕ) (me : Seated S) → get_elem? s.views id ≡ some me.0 → me.0.phase ≡ Idle → me.1 ≡ [] → slice_index s.words 0 ≡ n → n ≢ 0
@@ -111,8 +118,8 @@ module _ {S : Type 0} (stands_for : S → Opening → Type 0) (book : S → Book
   pub takes_turn : (slots id : ℕ) (me : Seated S) → me.0.phase ≡ Idle → me.1 ≡ [] → Allows Rule slots id me 0 (λ n. either (eqb n 0) 1 n) (Takes stands_for book me)
   takes_turn slots id me idle empty s r wide at range = let n : ℕ = slice_index s.words 0 in
       exchanged n 0 1 (λ m. Goes s 0 id me (Takes stands_for book me n) m)
-          (λ hit. subst (λ m. Goes s 0 id me (Takes stands_for book me m) 1) (sym hit) (takes-hit s r id me at idle empty hit))
-          (λ miss. takes-miss s r id n me at idle empty refl miss)
+      (λ hit. subst (λ m. Goes s 0 id me (Takes stands_for book me m) 1) (sym hit) (takes-hit s r id me at idle empty hit))
+      (λ miss. takes-miss s r id n me at idle empty refl miss)
 
   -- the load with the turn
   pub loads_turn : (slots id : ℕ) (me : Seated S) → me.0.phase ≡ Taken → Allows Rule slots id me 1 (λ n. n) (Loads me)
@@ -126,27 +133,30 @@ module _ {S : Type 0} (stands_for : S → Opening → Type 0) (book : S → Book
       let last_is : last v.phase ≡ 0 = ap last turn in
       let whole : v.noted ≡ r.log = (k.noted (omega arith)).0 in
       let long : length v.noted ≡ length r.log = ap length whole in
-      let as_busy : busy (set s.views id w) ≡ busy s.views = omega (arith, keeping.busy-set stands_for book s r id v w at) in (
+      let as_busy : busy (set s.views id w) ≡ busy s.views = omega (arith, keeping.busy-set stands_for book s r id v w at) in
+      let after : St = record { words = slice_set s.words 1 n; homes = s.homes; views = set s.views id w } in
+      let now : Rule after =
+      keeping.keeps stands_for book s r id v w at (slice_set s.words 1 n) s.homes
+      (ap (λ l. slice_set l 1 n) r.words ∙ (let same = sym as_busy in λ i. same i ∷ word i ∷ []))
+      (omega (arith, r.one, as_busy))
+      r.single
+      (λ all_home. r.home (omega (arith, all_home, total-set (λ u. out u.phase) s.views id v w at)))
+      record { own = refl; parts = refl; marks = refl; whole = omega (arith, long) }
+      record {
+        opened = λ _. k.opened (omega (arith, ap live turn));
+        seen = subst (λ l. IsPrefix l r.log) (sym whole) (whole_begins r.log);
+        shorter = k.shorter;
+        loaded = λ _. whole;
+        noted = λ _. k.noted (omega arith);
+        room = k.room;
+        own = λ p some_own. omega (arith, k.own p some_own, begins_length v.seen r.log k.seen, long);
+        marks = k.marks;
+      } in (
         w,
         keeps,
         tt,
-        keeping.keeps stands_for book s r id v w at (slice_set s.words 1 n) s.homes
-            (ap (λ l. slice_set l 1 n) r.words ∙ (let same = sym as_busy in λ i. same i ∷ word i ∷ []))
-            (omega (arith, r.one, as_busy))
-            r.single
-            (λ all_home. r.home (omega (arith, all_home, total-set (λ u. out u.phase) s.views id v w at)))
-            record { own = refl; parts = refl; marks = refl; whole = omega (arith, long) }
-            record {
-              opened = λ _. k.opened (omega (arith, ap live turn));
-              seen = subst (λ l. IsPrefix l r.log) (sym whole) (whole_begins r.log);
-              shorter = k.shorter;
-              loaded = λ _. whole;
-              noted = λ _. k.noted (omega arith);
-              room = k.room;
-              own = λ p some_own. omega (arith, k.own p some_own, begins_length v.seen r.log k.seen, long);
-              marks = k.marks;
-            },
-        (refl, word ∙ sym long, omega (arith, word, keeping.short stands_for book s r)),
+        now,
+        (refl, word ∙ sym long, keeping.proper stands_for book after now id w (set_at s.views id v w at)),
       )
 
   -- the load without the turn
@@ -177,11 +187,7 @@ module _ {S : Type 0} (stands_for : S → Opening → Type 0) (book : S → Book
               own = k.own;
               marks = k.marks;
             },
-        (refl, record {
-          parts = omega (arith, r.parts, total-at (λ (u : View). u.parts) s.views id v at);
-          own = k.room;
-          seen = omega (arith, begins_length v.seen r.log k.seen, keeping.short stands_for book s r);
-        }, λ le. shorter_begins v.shorter v.seen r.log k.shorter k.seen le),
+        (refl, keeping.proper stands_for book s r id v at, λ le. shorter_begins v.shorter v.seen r.log k.shorter k.seen le),
       )
 
   -- the store that ends a turn, with the value in its slot again

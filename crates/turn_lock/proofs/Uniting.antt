@@ -100,8 +100,15 @@ module _ {S : Type 0} (stands_for : S → Opening → Type 0) (book : S → Book
             home = λ all_home. r.home (omega (arith, all_home, out_is));
             each = keeping.each-set (set s.views id one) other w spent (Knows r.opening r.log r.quitter)
                 (keeping.each-set s.views id v one (Knows r.opening r.log r.quitter) r.each knows) (spent_knows r.opening r.log r.quitter);
-            whole = omega (arith, r.whole, total-at (has_all r.log) views id one here, total-set (has_all r.log) s.views id v one at,
-                total-set (has_all r.log) (set s.views id one) other w spent there, as_long.0, as_long.1);
+            whole = omega (
+              arith,
+              r.whole,
+              total-at (has_all r.log) views id one here,
+              total-set (has_all r.log) s.views id v one at,
+              total-set (has_all r.log) (set s.views id one) other w spent there,
+              as_long.0,
+              as_long.1,
+            );
             owned = λ p. sum (λ u. times p u.own) (times-append p v.own w.own) refl ∙ r.owned p;
             made = sum (λ u. length u.own) (length-append v.own w.own) refl ∙ r.made;
             parts = sum (λ u. u.parts) refl refl ∙ r.parts;

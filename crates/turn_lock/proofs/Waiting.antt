@@ -28,5 +28,5 @@ waits_more table old pass next n waits idle view =
     }
 
 module _ {S : Type 0} (stands_for : S → Opening → Type 0) (book : S → Book) where
-  pub has_turn : (table : TableId) (old pass : Pass S) (x : S) (new : View) → Waits table old pass → HasTurn stands_for book (view_of pass) x new → HasTurnLater stands_for book (view_of old) x new
-  has_turn table old pass x new waits has = (waits.found.0, subst (λ v. HasTurn stands_for book v x new) waits.found.1 has)
+  pub has_turn : (table : TableId) (old pass : Pass S) (x : S) (new : Pass S) → Waits table old pass → HasTurn stands_for book (view_of pass) x (view_of new) → HasTurnLater stands_for book old x new
+  has_turn table old pass x new waits has = (waits.found.0, subst (λ v. HasTurn stands_for book v x (view_of new)) waits.found.1 has)

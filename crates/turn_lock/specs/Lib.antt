@@ -3,5 +3,6 @@ pub mod Lending
 pub mod Passes
 pub mod Rule
 pub mod Steps
+pub mod Tables
 pub mod Totals
 pub mod Views

@@ -72,7 +72,7 @@ module _ {S : Type 0} (stands_for : S → Opening → Type 0) (book : S → Book
     pub one : busy s.views ≤ 1
     pub single : length s.homes ≡ 1
     pub home : total (λ v. out v.phase) s.views ≡ 0
-      → (x : S) × (get_elem? s.homes 0 ≡ some (some (Some x))) × Fits opening log quitter x
+        → (x : S) × (get_elem? s.homes 0 ≡ some (some (Some x))) × Fits opening log quitter x
     pub each : (k : ℕ) (v : View) → get_elem? s.views k ≡ some v → Knows opening log quitter v
     -- some view has seen the whole
     pub whole : 0 < total (has_all log) s.views

@@ -4,17 +4,19 @@ use mathlib.Core.List.{IsPrefix}
 use Rattle.atomic_table.specs.Table.{Me}
 use Rattle.kv_model.specs.Opening.{Opening}
 use Rattle.turn_lock.specs.Books.{Book}
-use Rattle.turn_lock.specs.Totals.{times}
+use Rattle.turn_lock.specs.Totals.{times, once}
 use Rattle.turn_lock.specs.Views.{ALL, missed, taken, loaded, noted, settled, in_phase}
 use Rattle.turn_lock.specs.declared.view.View.{View}
 use Rattle.turn_lock.specs.declared.view.Phase.{Phase}
 use Rattle.turn_lock.specs.declared.view.Phase.TheVariants.{Idle, Closing}
 
--- the numbers of a view are small
-pub record IsSmall (v : View) : Type 0 where
+-- a pass has at most all parts, and owns at most as many positions; each is its own once, and stands in what it has
+-- seen
+pub record IsProper (v : View) : Type 0 where
   pub parts : v.parts ≤ ALL
-  pub own : length v.own ≤ v.parts
+  pub room : length v.own ≤ v.parts
   pub seen : length v.seen ≤ ALL
+  pub own : (p : ℕ) → times p v.own ≤ once p (length v.seen)
 
 -- what a view may note: its own history as last noted, or one entry more where it has a part left; the first that
 -- quit as last noted, or, where there was none, itself
@@ -31,15 +33,15 @@ Seated S = Me (Option S) View
 module _ {S : Type 0} where
   -- with the turn, the lists of a join begin one list
   abbrev pub Loads : Seated S → ℕ → Seated S → Type 0
-  Loads me n me' = (me' ≡ (loaded me.0, me.1)) × (n ≡ length me.0.noted) × (n ≤ ALL)
+  Loads me n me' = (me' ≡ (loaded me.0, me.1)) × (n ≡ length me.0.noted) × IsProper (loaded me.0)
 
   -- without the turn, of the two lists of a join the shorter begins the longer
   abbrev pub Looks : Seated S → ℕ → Seated S → Type 0
-  Looks me n me' = (me' ≡ (settled me.0, me.1)) × IsSmall me.0
+  Looks me n me' = (me' ≡ (settled me.0, me.1)) × IsProper me.0
       × (length me.0.shorter ≤ length me.0.seen → IsPrefix me.0.shorter me.0.seen)
 
   abbrev pub Notes : Book → Seated S → ℕ → Seated S → Type 0
-  Notes book me n me' = (me' ≡ (noted book me.0, me.1)) × (n ≤ ALL)
+  Notes book me n me' = (me' ≡ (noted book me.0, me.1)) × IsProper (noted book me.0)
 
   -- the value is in its slot again
   abbrev pub Ends : Phase → Seated S → ℕ → Seated S → Type 0

@@ -86,8 +86,12 @@ noted book v = record v {
   marks = marks_after v.quitter book.quitter v.marks;
 }
 
-abbrev pub with_parts : ℕ → View → View
-with_parts parts v = record v { parts = parts }
+-- what split leaves to the old pass, and what it gives to the new one
+abbrev pub less_parts : ℕ → View → View
+less_parts parts v = record v { parts = v.parts - parts }
+
+abbrev pub newcomer_beside : View → ℕ → ℕ → View
+newcomer_beside v who parts = newcomer who v.opening v.seen parts
 
 -- the longer of two lists, the first where they are as long
 abbrev pub longer : List Entry → List Entry → List Entry

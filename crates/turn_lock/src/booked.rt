@@ -1,9 +1,9 @@
 // What stands behind the turn.
 ghost use Rattle.std.specs.Prelude.{◌≡◌, [], length};
 
-/// A value behind a turn. It keeps a history of its calls, which begins empty, and the number of the first caller
-/// that quit, if one did. What it was when it was handed in is its opening: contracts say by `stands_for` whether a
-/// value may have come from an opening.
+/// A value behind a turn. It keeps a history of its calls, which begins empty, and the number of
+/// the first caller that quit, if one did. What it was when it was handed in is its opening:
+/// contracts say by `stands_for` whether a value may have come from an opening.
 pub trait Booked {
     ghost use Rattle.kv_model.specs.Opening.{Opening};
     ghost use Rattle.turn_lock.specs.Books.{Book};

@@ -4,8 +4,9 @@ ghost use Rattle.std.specs.Prelude.{◌≡◌, ◌≤◌, length};
 use crate::view::View;
 use atomic_table::Seat;
 
-/// What one caller knows of the history: how much of it it has seen, and which positions in it are its own.
-/// A pass owns at most as many positions as it has parts.
+/// What one caller knows of the history: how much of it it has seen, and which positions in it are
+/// its own. A pass owns at most as many positions as it has parts.
+#[derive(Drop)]
 pub struct Pass<S> {
     pub(crate) who: u8,
     pub(crate) seen: u32,

@@ -1,6 +1,5 @@
 // What each step on the table tells its seat. These types are for proofs alone.
-ghost use Rattle.std.specs.Prelude.{◌-◌};
-ghost use Rattle.turn_lock.specs.Views.{newcomer, with_parts, both, spent};
+ghost use Rattle.turn_lock.specs.Views.{newcomer_beside, less_parts, both, spent};
 ghost use Rattle.turn_lock.specs.Steps.{Takes, Loads, Looks, Notes, Ends};
 ghost use Rattle.turn_lock.specs.declared.view.Phase.TheVariants.{Idle, Closing};
 
@@ -87,9 +86,9 @@ pub struct Share<H> {
 }
 
 impl<H: Sharing> Split<View> for Share<H> {
-    ghost left = { λ v. with_parts (v.parts - H.parts) v };
+    ghost left = { less_parts H.parts };
 
-    ghost right = { λ v. newcomer H.who v.opening v.seen H.parts };
+    ghost right = { λ v. newcomer_beside v H.who H.parts };
 }
 
 /// One pass keeps what two have.
