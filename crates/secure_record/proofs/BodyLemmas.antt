@@ -1,12 +1,12 @@
 -- Stored bytes and the CMAC of a record, in pieces.
-use Rattle.std.proofs.Common.{◌≡◌, ℕ, ◌+◌, ◌*◌, ◌/◌, ◌%◌, ◌^◌, ◌≤◌, Bool, true, false, List, [], ◌∷◌, ◌++◌, length, bit_xor, bit_and, refl, sym, ap, ap₂, ◌∙◌, subst, arith, add-zero, append_assoc, if◌then◌else◌}
-use Rattle.std.specs.Prelude.{Option, Some, None, ◌==◌}
+use Rattle.std.proofs.Common.{◌≡◌, ℕ, ◌+◌, ◌/◌, ◌%◌, Bool, true, false, List, [], ◌∷◌, ◌++◌, length, bit_xor, bit_and, refl, sym, ap, ap₂, ◌∙◌, subst, arith, add-zero, if◌then◌else◌}
+use Rattle.std.specs.Prelude.{Option, Some, None}
 use Rattle.std.specs.Int.Bits.{xor_self, xor_assoc, xor_zero_r}
 use Rattle.std.proofs.lemmas.Nat.Bits.{and_high}
 use Rattle.std.proofs.lemmas.Bool.{eq-eqb, ne_eqb}
 use Rattle.std.proofs.lemmas.List.{append-nil}
 use Rattle.cipher_core.specs.Cmac.{CmacState, HasFed, cmac}
-use Rattle.cipher_core.specs.Ctr.{CtrState, ctr_text, key_stream_byte, text_from, advanced}
+use Rattle.cipher_core.specs.Ctr.{CtrState, ctr_text, key_stream_byte}
 use Rattle.cipher_core.specs.Salt.{derived}
 use Rattle.cipher_core.specs.declared.derivation.Salt.TheVariants.{Enc, Auth}
 use Rattle.cipher_core.proofs.CtrText.{length-ctr_text, text_from-++}

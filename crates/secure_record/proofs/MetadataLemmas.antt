@@ -1,17 +1,15 @@
 -- Metadata and its bytes.
-use Rattle.std.proofs.Common.{◌≡◌, ℕ, ◌+◌, ◌-◌, ◌<◌, ◌≤◌, ◌^◌, ◌⊎◌, inl, inr, min, Bool, true, false, ◌&&◌, IsTrue, List, [], ◌∷◌, ◌++◌, length, take, drop, slice_range, refl, sym, ap, ap₂, ◌∙◌, subst, arith, if◌then◌else◌}
+use Rattle.std.proofs.Common.{◌≡◌, ℕ, ◌<◌, ◌≤◌, ◌^◌, Bool, true, false, ◌&&◌, List, ◌++◌, take, refl, ap, ap₂, arith, if◌then◌else◌}
 use Rattle.std.specs.Prelude.{Option, Some, None, ◌==◌, nat_le}
-use Rattle.std.specs.Int.{w32, w64, to_be_bytes, from_be_bytes, from_le_bytes}
 use Rattle.std.specs.Str.{bytes_eq}
-use Rattle.std.proofs.lemmas.Bool.{and_parts, and_from, and_right, ne_eqb, eqb-true, leb-true, le-leb, eq-eqb, false≢true}
+use Rattle.std.proofs.lemmas.Bool.{and_parts, and_from, and_right, ne_eqb, eqb-true, leb-true, le-leb, eq-eqb}
 use Rattle.std.proofs.lemmas.Slice.Eq.{bytes_eq-Decides}
-use Rattle.std.proofs.lemmas.List.{take_at, take-append-drop, length-take, length-append}
+use Rattle.std.proofs.lemmas.List.{take_at}
 use Rattle.std.proofs.lemmas.Nat.{and_le_r, from_le_bytes-to_le_bytes_4, from_be_bytes-to_be_bytes_8}
 use Rattle.kv_model.specs.Flags.{is_secure_flags}
-use Rattle.secure_record.specs.declared.metadata.Revision.{Revision}
 use Rattle.secure_record.specs.declared.metadata.Revision.TheVariants.{First, Second}
 use Rattle.secure_record.specs.declared.metadata.Metadata.{Metadata}
-use Rattle.secure_record.specs.Metadata.{metadata_size, spelling, first_in, second_in, prior_in, record_size, is_metadata, metadata_of, HasPrior, IsMetadata}
+use Rattle.secure_record.specs.Metadata.{metadata_size, spelling, first_in, second_in, prior_in, record_size, is_metadata, metadata_of, HasPrior}
 
 -- ---- the test of metadata
 

@@ -1,17 +1,16 @@
 -- Whole records and what they open to.
-use Rattle.std.proofs.Common.{◌≡◌, ℕ, suc, ◌+◌, ◌-◌, ◌*◌, ◌/◌, ◌%◌, ◌<◌, ◌≤◌, ◌^◌, ◌⊎◌, inl, inr, min, Bool, true, false, IsTrue, List, [], ◌∷◌, ◌++◌, length, take, drop, slice_range, refl, sym, ap, ap₂, ◌∙◌, subst, arith, append_assoc, if◌then◌else◌}
+use Rattle.std.proofs.Common.{◌≡◌, ℕ, suc, ◌+◌, ◌-◌, ◌<◌, ◌≤◌, ◌^◌, ◌⊎◌, inl, inr, Bool, true, false, List, ◌++◌, length, take, drop, slice_range, refl, sym, ap, ap₂, ◌∙◌, subst, arith, append_assoc, if◌then◌else◌}
 use Rattle.std.specs.Prelude.{Option, Some, None}
 use Rattle.std.specs.Int.{w64, to_be_bytes, from_be_bytes}
 use Rattle.std.specs.Str.{bytes_eq}
 use Rattle.std.specs.Bool.{Decides}
-use Rattle.std.proofs.lemmas.Bool.{false≢true}
 use Rattle.std.proofs.lemmas.Slice.Eq.{bytes_eq-Decides}
 use Rattle.std.proofs.lemmas.List.{take_at, drop_at, take-append-drop, length-take, length-drop, length-append, drop-drop, take-take}
 use Rattle.cipher_core.specs.Cmac.{cmac}
 use Rattle.secure_record.specs.declared.metadata.Revision.{Revision}
 use Rattle.secure_record.specs.declared.metadata.Revision.TheVariants.{First, Second}
 use Rattle.secure_record.specs.declared.metadata.Metadata.{Metadata}
-use Rattle.secure_record.specs.Metadata.{metadata_size, spelling, first_in, second_in, prior_in, record_size, is_metadata, metadata_of, HasPrior, IsHead, IsMetadata}
+use Rattle.secure_record.specs.Metadata.{metadata_size, spelling, first_in, second_in, record_size, is_metadata, metadata_of, HasPrior, IsHead, IsMetadata}
 use Rattle.secure_record.specs.Sealed.{stored, opened, record_tag, sealed}
 use Rattle.secure_record.specs.Unseal.{Opened, opened_as, stored_in, tag_in, unseal, unseal_by, IsInParts, WasSealed}
 use Rattle.secure_record.proofs.MetadataLemmas.{StandsIn, stands, is_metadata-true, metadata_of-first, metadata_of-second, first_read, second_read, second_is_not_first}

@@ -9,10 +9,10 @@ use Rattle.kv_model.specs.declared.error.KvError.{KvError}
 use Rattle.kv_model.specs.declared.error.KvError.TheVariants.{AuthFailed}
 use Rattle.secure_record.specs.declared.metadata.Metadata.{Metadata}
 use Rattle.secure_record.specs.declared.body.BodyStream.{BodyStream}
-use Rattle.secure_record.specs.Metadata.{spelling, metadata_of, IsMetadata}
-use Rattle.secure_record.specs.Sealed.{first_counter, opened, stored, record_tag}
+use Rattle.secure_record.specs.Metadata.{spelling, metadata_of, record_size, IsMetadata}
+use Rattle.secure_record.specs.Sealed.{first_counter, stored}
 use Rattle.secure_record.specs.States.{SealState, OpenState}
-use Rattle.secure_record.specs.Unseal.{Opened, opened_as, unseal}
+use Rattle.secure_record.specs.Unseal.{Opened}
 
 -- ---- counter mode where there is a cipher, and nothing where there is none
 
@@ -48,10 +48,17 @@ pub record HasOpened (s : OpenState) (root key front : List ℕ) : Type 0 where
   pub metadata : IsMetadata s.metadata
   pub body : HasTaken s.body root key s.metadata front
 
--- a stream over the metadata that was found, or a refusal where there is none
-abbrev pub Begins : Result OpenState KvError → List ℕ → List ℕ → Option Metadata → Type 0
-Begins (Ok s) root key found = (found ≡ Some s.metadata) × HasOpened s root key []
-Begins (Err e) root key found = (found ≡ None) × (e ≡ AuthFailed)
+-- a stream over the metadata that the head of a record of this size has, before its first stored byte
+pub record HasBegun (s : OpenState) (root key head : List ℕ) (size : ℕ) : Type 0 where
+  pub found : metadata_of head size ≡ Some s.metadata
+  pub opened : HasOpened s root key []
+  pub whole : record_size s.metadata ≡ size
+  pub left : s.body.left ≡ s.metadata.size
+
+-- such a stream, or a refusal where the head has no metadata
+abbrev pub Begins : Result OpenState KvError → List ℕ → List ℕ → List ℕ → ℕ → Type 0
+Begins (Ok s) root key head size = HasBegun s root key head size
+Begins (Err e) root key head size = (metadata_of head size ≡ None) × (e ≡ AuthFailed)
 
 -- the record that was read: its metadata, its stored bytes and a tag
 abbrev pub record_read : Metadata → List ℕ → List ℕ → List ℕ

@@ -46,7 +46,8 @@ impl BodyStream {
     /// The body of a record with this metadata, whose bytes are these, before the first byte of its value.
     pub fn new(root: &[u8; 16], key: &Key, metadata: &Metadata, spelled: &[u8]) -> BodyStream
         requires { spelled.now ≡ spelling metadata.now }
-        ensures { HasTaken result root.now key.now metadata.now [] }
+        ensures taken { HasTaken result root.now key.now metadata.now [] }
+        ensures left { result.left ≡ metadata.now.size }
     {
         let mut mac = CmacStream::new(&derive(root, Salt::Auth, key));
         mac.update(spelled);

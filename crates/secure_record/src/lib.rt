@@ -15,6 +15,8 @@ pub mod laws;
 mod metadata;
 mod open;
 mod seal;
+#[cfg(test)]
+mod tests;
 
 pub use open::OpenStream;
 pub use seal::SealStream;

@@ -1,6 +1,6 @@
 // The reading of a sealed record.
 ghost use Rattle.std.specs.Prelude.{◌≡◌, ◌++◌, ◌+◌, ◌≤◌, ℕ, List, [], length, Option, Some};
-ghost use Rattle.secure_record.specs.Metadata.{metadata_of, metadata_size, IsHead};
+ghost use Rattle.secure_record.specs.Metadata.{metadata_size, IsHead};
 ghost use Rattle.secure_record.specs.Sealed.{opened, record_tag};
 ghost use Rattle.secure_record.specs.Unseal.{opened_as, unseal};
 ghost use Rattle.secure_record.specs.Streams.{record_read, Begins, Ends, HasOpened};
@@ -32,7 +32,7 @@ impl OpenStream {
     /// shorter. `AuthFailed` comes exactly where these are metadata of neither revision for that length.
     pub fn new(root: &[u8; 16], key: &Key, head: &[u8], length: u32) -> Result<OpenStream, KvError>
         requires { IsHead head.now length }
-        ensures { Begins result root.now key.now (metadata_of head.now length) }
+        ensures { Begins result root.now key.now head.now length }
     {
         let metadata = Metadata::read(head, length).ok_or(KvError::AuthFailed)?;
         let spelled = &head[..usize::from(metadata.revision.metadata_size())];

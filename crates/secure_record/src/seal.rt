@@ -44,7 +44,8 @@ impl SealStream {
         prior: Option<[u8; 16]>,
         size: u32,
     ) -> SealStream
-        ensures { HasSealed result root.now key.now (sealed_metadata size flags.bits iv prior) [] }
+        ensures sealed { HasSealed result root.now key.now (sealed_metadata size flags.bits iv prior) [] }
+        ensures left { result.body.left ≡ size }
     {
         let metadata = Metadata {
             revision: Revision::Second,

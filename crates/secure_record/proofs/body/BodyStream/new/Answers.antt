@@ -1,4 +1,4 @@
-use Rattle.std.proofs.Common.{◌≡◌, ◌++◌, List, ℕ, [], ap, ◌∙◌, sym, subst}
+use Rattle.std.proofs.Common.{◌≡◌, ◌++◌, List, ℕ, [], ap, ◌∙◌, subst}
 use Rattle.std.specs.Prelude.{Some}
 use Rattle.cipher_core.specs.Cmac.{CmacState, HasFed}
 use Rattle.secure_record.specs.Streams.{first_cipher}
@@ -6,8 +6,8 @@ use Rattle.secure_record.proofs.BodyLemmas.{HasTaken-none, cipher-on, cipher-off
 use Rattle.secure_record.proofs.body.BodyStream.new.Goals as goal
 use Rattle.secure_record.proofs.body.BodyStream.new.Goals.{then-metadata-ne0, else-metadata-ne0}
 
-pub returns : goal.returns
-returns c =
+pub returns-clause-taken : goal.returns-clause-taken
+returns-clause-taken c =
     let key = c.update-2.ensures.key ∙ c.update.ensures.key ∙ ap (λ (s : CmacState). s.key) c.new-mac.ensures.state ∙ c.derive.ensures in
     let fed = c.update-2.ensures.fed _ (c.update.ensures.fed [] c.new-mac.ensures.fed) in
     let all = subst (λ (k : List ℕ). HasFed c.update-2.new.self (c.args.spelled.now ++ k)) c.as_slice.ensures.bytes fed in

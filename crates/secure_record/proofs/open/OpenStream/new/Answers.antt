@@ -1,4 +1,4 @@
-use Rattle.std.proofs.Common.{◌≡◌, ℕ, take, length, sym, ap, ◌∙◌, arith}
+use Rattle.std.proofs.Common.{◌≡◌, ℕ, take, sym, ap, ◌∙◌, arith}
 use Rattle.std.specs.Prelude.{Some}
 use Rattle.std.proofs.lemmas.List.{length-take-le}
 use Rattle.secure_record.specs.Metadata.{metadata_of, metadata_size}
@@ -24,4 +24,10 @@ pub returns : goal.returns
 returns c =
     let m = c.in_ok-metadata.metadata in
     let found : metadata_of c.args.head.now c.args.length ≡ Some m = sym c.read.ensures ∙ c.in_ok-metadata.ensures.ok_part in
-    (found, record { metadata = (found_is c.args.head.now c.args.length m c.requires found).valid; body = c.new-body.ensures })
+    let is = found_is c.args.head.now c.args.length m c.requires found in
+    record {
+      found = found;
+      opened = record { metadata = is.valid; body = c.new-body.ensures.taken };
+      whole = sym is.stands.whole;
+      left = c.new-body.ensures.left;
+    }

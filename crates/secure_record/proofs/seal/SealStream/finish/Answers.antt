@@ -1,4 +1,4 @@
-use Rattle.std.proofs.Common.{◌≡◌, ℕ, List, ◌++◌, length, ap, ap₂, sym, subst}
+use Rattle.std.proofs.Common.{ℕ, List, ◌++◌, length, ap, ap₂, sym, subst}
 use Rattle.secure_record.specs.declared.body.BodyStream.{BodyStream}
 use Rattle.secure_record.specs.declared.metadata.Metadata.{Metadata}
 use Rattle.secure_record.specs.Sealed.{sealed, sealed_metadata, stored}

@@ -1,4 +1,4 @@
-use Rattle.std.proofs.Common.{◌≡◌, ℕ, List, ◌++◌, sym, ap, ◌∙◌, subst}
+use Rattle.std.proofs.Common.{ℕ, List, sym, ap, ◌∙◌, subst}
 use Rattle.secure_record.specs.declared.body.BodyStream.{BodyStream}
 use Rattle.secure_record.specs.Sealed.{stored}
 use Rattle.secure_record.specs.States.{SealState}
