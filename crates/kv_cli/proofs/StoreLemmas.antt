@@ -11,7 +11,7 @@ use Rattle.flash_core.specs.Calls.{OnlyReads}
 use Rattle.flash_core.specs.Images.{IsErased}
 use Rattle.flash_core.specs.Sizes.{IsValid, size_of}
 use Rattle.flash_core.specs.State.{FlashState}
-use Rattle.flash_core.specs.Up.{IsMultipleOf}
+use Rattle.base_core.specs.Units.{IsMultipleOf}
 use Rattle.kv_model.specs.Flags.{is_write_once, remove_flags}
 use Rattle.base_core.specs.Sizes.{record_size}
 use Rattle.kv_model.specs.declared.error.KvError.TheVariants.{WriteProtected, MediaFull}

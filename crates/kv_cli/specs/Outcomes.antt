@@ -1,7 +1,8 @@
 -- What the program answers, status by status.
 use Rattle.std.specs.Prelude.{◌≡◌, ◌≢◌, ◌≤◌, ◌⊎◌, ℕ, List, [], length, take, Option, Some, None, All}
 use Rattle.std.specs.Option.{option_map}
-use Rattle.kv_host.specs.Contents.{HostContents, IfTold, Rose, with_file, with_printed}
+use Rattle.kv_host.specs.Contents.{HostContents, IfTold, with_file, with_printed}
+use Rattle.base_core.specs.Counts.{Rose}
 use Rattle.kv_host.specs.Refusal.{ReadRefusal}
 use Rattle.kv_host.specs.declared.interface.HostFault.{HostFault}
 use Rattle.kv_host.specs.declared.interface.HostFault.TheVariants as fault

@@ -2,7 +2,8 @@
 ghost use Rattle.std.specs.Prelude.{◌≡◌, ◌≢◌, ◌≤◌, ◌+◌, ◌⊎◌, ℕ, List, [], length, map, All, Err, Some, None, IfOk, IfErr};
 ghost use Rattle.std.specs.Option.{option_map};
 ghost use Rattle.std.specs.Rc.{rc_str_bytes};
-ghost use Rattle.kv_host.specs.Contents.{IfTold, Rose, with_file, with_printed};
+ghost use Rattle.kv_host.specs.Contents.{IfTold, with_file, with_printed};
+ghost use Rattle.base_core.specs.Counts.{Rose};
 ghost use Rattle.journal_core.specs.Texts.{text_of};
 ghost use Rattle.script_core.specs.declared.line.Line.{Line};
 ghost use Rattle.kv_cli.specs.Images.{image_size};

@@ -1,5 +1,5 @@
 -- What a host that tells its bytes contains: its files by name, and what was printed so far.
-use Rattle.std.specs.Prelude.{ℕ, ◌+◌, ◌<◌, ◌≤◌, ◌^◌, ◌⊎◌, List, ◌++◌, Option, Some, None, refl, if◌then◌else◌, nat_lt, ◌-◌}
+use Rattle.std.specs.Prelude.{ℕ, ◌+◌, ◌^◌, List, ◌++◌, Option, Some, None, refl, if◌then◌else◌, nat_lt, ◌-◌}
 use Rattle.std.specs.Ordering.{nat_cmp}
 use Rattle.std.specs.Cmp.Lexicographic.{slice_cmp}
 use Rattle.std.specs.FinMap.{FinMap, insert, get, code}
@@ -28,10 +28,6 @@ with_printed bytes c = record { files = c.files; printed = c.printed ++ bytes }
 -- one more, in a counter of 64 bits that stands still at its end
 abbrev pub counted_up : ℕ → ℕ
 counted_up n = if nat_lt n (2 ^ 64 - 1) then n + 1 else n
-
--- The count of faults rose, or stands at the end of its type, where no count can rise.
-abbrev pub Rose : ℕ → ℕ → Type 0
-Rose before after = (before < after) ⊎ (2 ^ 64 ≤ after + 1)
 
 -- of a host that tells its contents, P holds of them
 abbrev pub IfTold : Option HostContents → (HostContents → Type 0) → Type 0

@@ -7,16 +7,11 @@ use Rattle.std.specs.Cmp.Lexicographic.{slice_cmp, nat_list_cmp_total}
 use Rattle.std.specs.FinMap.{get-insert, get, nat_cmp-IsAntisymmetric, slice_cmp-IsAntisymmetric}
 use Rattle.kv_host.specs.declared.interface.HostFault.{HostFault}
 use Rattle.kv_host.specs.declared.interface.HostFault.TheVariants.{Fault, TooLong, Absent, Memory}
-use Rattle.kv_host.specs.Contents.{HostContents, file_at, with_file, with_printed, Rose}
+use Rattle.kv_host.specs.Contents.{HostContents, file_at, with_file, with_printed}
+use Rattle.base_core.specs.Counts.{Rose}
 use Rattle.kv_host.specs.Refusal.{ReadRefusal}
 
 -- a rise is seen by who looks later, and by who began earlier
-pub Rose-later : (a b c : ℕ) → Rose a b → b ≤ c → Rose a c
-Rose-later a b c rose later = elim rose [ inl h ↦ inl (omega arith) | inr h ↦ inr (omega arith) ]
-
-pub Rose-earlier : (a b c : ℕ) → a ≤ b → Rose b c → Rose a c
-Rose-earlier a b c earlier rose = elim rose [ inl h ↦ inl (omega arith) | inr h ↦ inr (omega arith) ]
-
 -- to print twice is to print the one behind the other
 pub with_printed-join : (a b : List ℕ) (c : HostContents) → with_printed b (with_printed a c) ≡ with_printed (a ++ b) c
 with_printed-join a b c = ap (λ p. record { files = c.files; printed = p }) (append_assoc c.printed a b)

@@ -4,7 +4,8 @@ use Rattle.std.specs.declared.io.ErrorKind.{ErrorKind}
 use Rattle.std.specs.declared.io.ErrorKind.TheVariants.{NotFound, OutOfMemory}
 use Rattle.kv_host.specs.declared.interface.HostFault.{HostFault}
 use Rattle.kv_host.specs.declared.interface.HostFault.TheVariants.{Fault, TooLong, Absent, Memory}
-use Rattle.kv_host.specs.Contents.{HostContents, file_at, Rose, counted_up}
+use Rattle.kv_host.specs.Contents.{HostContents, file_at, counted_up}
+use Rattle.base_core.specs.Counts.{Rose}
 
 -- What holds where a read of `name` up to `limit` bytes is refused, with the count of faults before and after.
 -- A host that does not tell its contents answers for nothing but its count.

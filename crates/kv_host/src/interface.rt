@@ -1,7 +1,8 @@
 //! What the engine asks of the outside: files read and written whole, and bytes printed.
 ghost use Rattle.std.specs.Prelude.{◌≡◌, ◌≢◌, ◌+◌, length, Err, IsOk, ℕ, ◌≤◌, [], take, Option, Some, vec_len, IfErr, OnOk, OnErr};
 ghost use Rattle.std.specs.Option.{option_map};
-ghost use Rattle.kv_host.specs.Contents.{HostContents, file_at, with_file, with_printed, Rose, IfTold};
+ghost use Rattle.kv_host.specs.Contents.{HostContents, file_at, with_file, with_printed, IfTold};
+ghost use Rattle.base_core.specs.Counts.{Rose};
 ghost use Rattle.kv_host.specs.Refusal.{ReadRefusal, fault_number};
 
 /// Why a host refused a call.

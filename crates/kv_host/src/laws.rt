@@ -1,7 +1,8 @@
 //! Laws of what a host contains, each the contract of a function that does nothing.
 ghost use Rattle.std.specs.Prelude.{◌≡◌, ◌≢◌, ℕ, ◌≤◌, ◌⊎◌, ◌++◌, List, length, Some};
 ghost use Rattle.kv_host.specs.declared.interface.HostFault.{HostFault};
-ghost use Rattle.kv_host.specs.Contents.{HostContents, file_at, with_file, with_printed, Rose};
+ghost use Rattle.kv_host.specs.Contents.{HostContents, file_at, with_file, with_printed};
+ghost use Rattle.base_core.specs.Counts.{Rose};
 ghost use Rattle.kv_host.specs.Refusal.{ReadRefusal};
 
 /// A file that was written is the one that is there, and every other file is as before.

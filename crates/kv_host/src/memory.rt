@@ -2,7 +2,8 @@
 ghost use Rattle.std.specs.Prelude.{◌≡◌, ◌≢◌, ℕ, ◌≤◌, ◌<◌, ◌↔◌, [], take, Option, Some, Err, true, false, if◌then◌else◌, IsOk, IsErr, IsTrue, IfOk, IfErr, OnOk, OnErr, ◌+◌, length, vec_len, vec_capacity};
 ghost use Rattle.std.specs.Option.{option_copied, option_map};
 ghost use Rattle.std.specs.FinMap as map;
-ghost use Rattle.kv_host.specs.Contents.{HostContents, file_at, with_file, with_printed, Rose, IfTold};
+ghost use Rattle.kv_host.specs.Contents.{HostContents, file_at, with_file, with_printed, IfTold};
+ghost use Rattle.base_core.specs.Counts.{Rose};
 ghost use Rattle.kv_host.specs.Refusal.{IsLengthRefusal, ReadRefusal};
 ghost use Rattle.kv_host.specs.Table.{IsReserved};
 ghost use Rattle.kv_host.specs.MemState.{IsCalm, MemState, CanStore, called, faulted, fails_next, new_state, shown, stored};
