@@ -361,7 +361,7 @@ module _ (g : Geometry) (valid : IsValid g) (before after torn : List ℕ) (size
 -- ---- ranges apart from what is held
 
 module _ (g : Geometry) (valid : IsValid g) (image : List ℕ) (c : Contents) (holds : Holds g image c) where
-  end_behind_master : (k : ℕ) → active_of c ≡ Some k → base_of g k + master_size g.prog ≤ c.end
+  pub end_behind_master : (k : ℕ) → active_of c ≡ Some k → base_of g k + master_size g.prog ≤ c.end
   end_behind_master k active =
       let all : AreAllRecords g.prog image (base_of g k + master_size g.prog) (base_of g k + area_size g) c.end c.records =
       subst (λ (a : Option ℕ). ActiveRecords g image a c.end c.records) active holds.active in

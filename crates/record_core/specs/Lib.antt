@@ -1,4 +1,5 @@
 pub mod Chance
+pub mod CutMoments
 pub mod Cuts
 pub mod Endings
 pub mod Header

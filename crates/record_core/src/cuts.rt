@@ -1,12 +1,18 @@
 // Laws of what a power cut leaves of what an image holds. Each is a function with nothing to do:
 // its contract is the law.
-ghost use Rattle.std.specs.Prelude.{◌≡◌, ◌⊎◌, ◌<◌, ◌≤◌, ℕ, List, length, slice_index, Some, None};
+ghost use Rattle.std.specs.Prelude.{◌≡◌, ◌⊎◌, ◌<◌, ◌≤◌, ℕ, List, length, slice_index, IsTrue, Option, Some, None};
 ghost use Rattle.flash_core.specs.declared.geometry.Geometry.{Geometry};
 ghost use Rattle.flash_core.specs.Images.{Torn};
 ghost use Rattle.flash_core.specs.Sizes.{IsValid, size_of};
 ghost use Rattle.kv_model.specs.FlaggedMap.{FlaggedMap};
 ghost use Rattle.base_core.specs.Sizes.{master_size};
 ghost use Rattle.record_core.specs.Chance.{FirstBreak, NoChance};
+ghost use Rattle.flash_core.specs.State.{DeviceCall};
+ghost use Rattle.kv_model.specs.Keys.{is_key};
+ghost use Rattle.kv_model.specs.Write.{Write};
+ghost use Rattle.record_core.specs.CutMoments.{CutStrictly, HoldsOneOf, MayAppend};
+ghost use Rattle.record_core.specs.Header.{IsHeader};
+ghost use Rattle.record_core.specs.Written.{AppendsRecord};
 ghost use Rattle.record_core.specs.Cuts.{IsApart, IsHeaderCall, IsInArea, IsMasterCall, active_of, base_of, with_version};
 ghost use Rattle.record_core.specs.Mounts.{Contents, Holds, Mounts};
 
@@ -70,4 +76,15 @@ pub fn torn_master_is_whole_or_unseen()
         → n ≤ master_size g.prog
         → Holds g torn c ⊎ Holds g torn (with_version k None c) ⊎ (torn ≡ after)
         ⊎ FirstBreak g before after torn (base_of g k) }
+{}
+
+/// At each moment of the write of a record where the active area ends the image holds what it held, or
+/// that with the record behind it, as far as chance goes; and the first record that is there by chance
+/// stands at the first byte of the call that was cut off.
+pub fn record_write_is_whole_or_unseen()
+    ensures { (g : Geometry) (image : List ℕ) (c : Contents) (k : ℕ) (r : Write) → IsValid g
+        → length image ≡ size_of g → MayAppend g image c k r
+        → IsTrue (is_key r.key) → IsHeader r.flags (length r.key) (length r.value)
+        → (call : Option DeviceCall) (now : List ℕ) → AppendsRecord g.prog c.end r image call now
+        → CutStrictly g (HoldsOneOf g c r) call now }
 {}

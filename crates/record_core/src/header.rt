@@ -5,8 +5,8 @@ ghost use Rattle.kv_model.specs.Crc.{crc_of};
 ghost use Rattle.record_core.specs.Header.{header_bytes, header_front, HasFields, HasForm, IsHeader, IsValid};
 ghost use Rattle.record_core.specs.declared.header.Header.{Header};
 
-use byteorder::{ByteOrder, LittleEndian};
 use crate::checksum::{CRC_START, crc};
+use byteorder::{ByteOrder, LittleEndian};
 use kv_model::Key;
 
 const MAGIC: &[u8; 4] = b"KVR1";

@@ -23,7 +23,8 @@ mod writer;
 pub use checksum::{CRC_START, crc, hash_of};
 pub use cuts::{
     chance_or_first_break, contents_survive_elsewhere, every_image_mounts,
-    torn_header_is_whole_or_unseen, torn_master_is_whole_or_unseen,
+    record_write_is_whole_or_unseen, torn_header_is_whole_or_unseen,
+    torn_master_is_whole_or_unseen,
 };
 pub use header::{HEADER_SIZE, Header, REMOVE, crc_of_front, read_header, write_header};
 pub use laws::{

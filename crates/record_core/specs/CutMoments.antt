@@ -1,0 +1,39 @@
+-- What each moment of a call leaves, where a record that nobody wrote isn't there by chance.
+use Rattle.std.specs.Prelude.{◌≡◌, ◌⊎◌, ℕ, ◌+◌, List, [], ◌∷◌, ◌++◌, Option, Some, None, slice_index}
+use Rattle.flash_core.specs.declared.geometry.Geometry.{Geometry}
+use Rattle.flash_core.specs.Sizes.{area_size}
+use Rattle.flash_core.specs.State.{DeviceCall, after_of, before_of}
+use Rattle.kv_model.specs.Write.{Write}
+use Rattle.record_core.specs.Chance.{FirstBreak, NoChance}
+use Rattle.record_core.specs.Cuts.{IsInArea, active_of, base_of}
+use Rattle.record_core.specs.Log.{extent}
+use Rattle.record_core.specs.Mounts.{Contents, Holds}
+
+-- Of the image that a cut inside a call leaves P holds, unless it holds a record by chance; the first such record stands
+-- at this place.
+pub record IsCut (g : Geometry) (P : List ℕ → Type 0) (before after torn : List ℕ) (place : ℕ) : Type 0 where
+  pub holds : NoChance g before after torn → P torn
+  pub first : (at : ℕ) → FirstBreak g before after torn at → at ≡ place
+
+-- P at a moment between calls, and inside a call as far as chance goes: the first record that is there by chance stands
+-- at the first byte of that call
+abbrev pub CutStrictly : Geometry → (List ℕ → Type 0) → Option DeviceCall → List ℕ → Type 0
+CutStrictly g P None c = P c
+CutStrictly g P (Some call) c = IsCut g P (before_of call c) (after_of call c) c call.place
+
+-- the contents with one record more
+abbrev pub with_record : ℕ → Write → Contents → Contents
+with_record prog r c = record { first = c.first; second = c.second; records = c.records ++ r ∷ []; end = c.end + extent prog r }
+
+-- A record may be written where the records of the active area end: an erased byte stands there, the record lies in the
+-- area, and behind it the area ends or another erased byte stands.
+pub record MayAppend (g : Geometry) (image : List ℕ) (c : Contents) (k : ℕ) (r : Write) : Type 0 where
+  pub holds : Holds g image c
+  pub active : active_of c ≡ Some k
+  pub inside : IsInArea g k c.end (extent g.prog r)
+  pub erased : slice_index image c.end ≡ 255
+  pub behind : (c.end + extent g.prog r ≡ base_of g k + area_size g) ⊎ (slice_index image (c.end + extent g.prog r) ≡ 255)
+
+-- the image holds these contents, or these with the record behind them
+abbrev pub HoldsOneOf : Geometry → Contents → Write → List ℕ → Type 0
+HoldsOneOf g c r image = Holds g image c ⊎ Holds g image (with_record g.prog r c)
