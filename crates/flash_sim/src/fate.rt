@@ -28,5 +28,9 @@ pub fn next_fate(is_torn: bool, armed: &mut Option<Arming>, is_named: bool) -> F
             *armed = Some(arming);
         }
     }
-    if is_torn || is_named { Fate::Fails } else { Fate::Goes }
+    if is_torn || is_named {
+        Fate::Fails
+    } else {
+        Fate::Goes
+    }
 }

@@ -41,4 +41,3 @@ pub fn range_of(image: &[u8], place: usize, n: usize) -> &[u8]
 {
     &image[place..place + n]
 }
-

@@ -56,7 +56,9 @@ fn a_torn_write_leaves_its_range_as_the_pattern_says(rt: HostRuntime) -> Result<
         assert!(rt; program_both(&mut chip).is_err());
         assert!(rt; chip.torn().is_some());
         let image = chip.into_image();
-        let got = [image[64], image[75], image[76], image[88], image[95], image[96]];
+        let got = [
+            image[64], image[75], image[76], image[88], image[95], image[96],
+        ];
         assert_eq!(rt; got, left, "{n} {pattern:?}");
     }
     Ok(())
