@@ -144,6 +144,14 @@ if_some true x y is = (refl, cc)
 if_some false x y is = absurd (cc)
 
 -- a header that a place spells, with its CRC in four bytes
+-- the same header with the CRC that its bytes spell
+abbrev pub low_crc : Header → Header
+low_crc header = record { flags = header.flags; key_size = header.key_size; value_size = header.value_size; crc = header.crc % 2 ^ 32 }
+
+pub low_spelling : (header : Header) → header_bytes (low_crc header) ≡ header_bytes header
+unfolding header_bytes
+low_spelling header = ap (λ (crc : List ℕ). header_front header.flags header.key_size header.value_size ++ crc) (low_bytes header.crc)
+
 module _ (prog : ℕ) (image : List ℕ) (end place : ℕ) where
   spelled_of : (header : Header) (key : List ℕ) → key_behind prog image end place header ≡ Some key → SpellsKey prog image end place key
   unfolding key_behind
@@ -164,13 +172,6 @@ module _ (prog : ℕ) (image : List ℕ) (end place : ℕ) where
 
   pub key_spells : (key : List ℕ) → key_spelled prog image end place ≡ Some key → SpellsKey prog image end place key
   key_spells key found = spelled_of (fields_of (part image place 24)) key found
-
-  abbrev low_crc : Header → Header
-  low_crc header = record { flags = header.flags; key_size = header.key_size; value_size = header.value_size; crc = header.crc % 2 ^ 32 }
-
-  low_spelling : (header : Header) → header_bytes (low_crc header) ≡ header_bytes header
-  unfolding header_bytes
-  low_spelling header = ap (λ (crc : List ℕ). header_front header.flags header.key_size header.value_size ++ crc) (low_bytes header.crc)
 
   module _ (key : List ℕ) (spells : SpellsKey prog image end place key) where
     abbrev found : Header

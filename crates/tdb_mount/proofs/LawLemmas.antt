@@ -27,7 +27,8 @@ use Rattle.tdb_mount.proofs.KeyLemmas.{found_below, get-tabulate, key_spells, re
 use Rattle.tdb_mount.proofs.TableLemmas.{get-placed, get-placed_other, get-taken, get-taken_other, places_of-append}
 use Rattle.tdb_mount.specs.Choice.{ChosenIn}
 use Rattle.tdb_mount.specs.Format.{Leaves, LeavesBy, first_erased, formatted}
-use Rattle.tdb_mount.proofs.FormatLemmas.{length-erased, master_in_area}
+use Rattle.flash_core.proofs.EraseLaws.{length-erased}
+use Rattle.tdb_mount.proofs.FormatLemmas.{master_in_area}
 use Rattle.tdb_mount.proofs.MountLemmas.{formatted_chosen}
 
 module _ (g : Geometry) (valid : IsValid g) (image : List ℕ) (sized : length image ≡ size_of g) where
@@ -43,7 +44,7 @@ module _ (g : Geometry) (valid : IsValid g) (image : List ℕ) (sized : length i
       let positive = prog_positive g valid in
       let within : master_size g.prog ≤ area_size g = master_in_area g valid in
       let fits : 0 + area_size g ≤ length image = omega (arith, sized, size-areas g) in
-      let long = length-erased image (area_size g) (omega (arith, fits)) in
+      let long = length-erased image 0 (area_size g) (omega (arith, fits)) in
       let master : List ℕ = master_bytes g.prog 1 in
       let size : length master ≡ master_size g.prog = length-master_bytes g.prog positive 1 in
       let torn : Torn 0 (length master) (first_erased g image) (formatted g image) = Torn-put (first_erased g image) 0 master (omega (arith, size, within, long, fits)) in

@@ -4,5 +4,6 @@ pub mod LawLemmas
 pub mod MountLemmas
 pub mod PlaceLemmas
 pub mod ReaderLemmas
+pub mod RunLemmas
 pub mod TableLemmas
 pub mod WalkLemmas

@@ -1,6 +1,6 @@
 -- What a mount leaves and finds.
 use Rattle.std.proofs.Common.{◌≡◌, ℕ, ◌+◌, ◌≤◌, List, length, inr, refl, sym, ◌∙◌, ap, subst, arith}
-use Rattle.std.specs.Prelude.{Option, Some, None, Result, Ok, Err, IsErr, IfErr, OnOk, is_some}
+use Rattle.std.specs.Prelude.{Option, Some, None, Result, Ok, Err, IsErr, IfErr, OnOk, IsTrue, is_some}
 use Rattle.std.specs.Option.{option_map}
 use mathlib.Core.Bool.{false≢true}
 use Rattle.flash_core.specs.declared.geometry.Geometry.{Geometry}
@@ -24,7 +24,8 @@ use Rattle.record_core.proofs.MountLemmas.{IsMaster-put, one_version}
 use Rattle.tdb_mount.specs.declared.active.Active.{Active}
 use Rattle.tdb_mount.specs.Choice.{ChosenIn, IsChoice}
 use Rattle.tdb_mount.specs.Format.{Leaves, LeavesBy, first_erased, formatted}
-use Rattle.tdb_mount.proofs.FormatLemmas.{length-erased, master_in_area}
+use Rattle.flash_core.proofs.EraseLaws.{length-erased}
+use Rattle.tdb_mount.proofs.FormatLemmas.{master_in_area}
 
 pub some_is : (x y : List ℕ) → Some x ≡ Some y → x ≡ y
 some_is x y same = cc
@@ -62,6 +63,12 @@ some x = Some x
 some_not_none : (x : ℕ) → some x ≡ None → ⊥
 some_not_none x same = cc
 
+pub no_first : (first second : Option ℕ) → active_area first second ≡ None → first ≡ None
+no_first None None is = refl
+no_first None (Some second) is = refl
+no_first (Some first) None is = absurd (some_not_none 0 is)
+no_first (Some first) (Some second) is = absurd (some_not_none _ is)
+
 pub no_second : (first second : Option ℕ) → active_area first second ≡ None → second ≡ None
 no_second None None is = refl
 no_second None (Some second) is = absurd (some_not_none 1 is)
@@ -77,7 +84,7 @@ formatted_chosen g valid image sized chosen torn =
     let size : ℕ = master_size g.prog in
     let within : size ≤ area = master_in_area g valid in
     let fits : area + size ≤ length image = omega (arith, sized, size-areas g, within) in
-    let long : length (first_erased g image) ≡ length image = length-erased image area (omega (arith, fits)) in
+    let long : length (first_erased g image) ≡ length image = length-erased image 0 area (omega (arith, fits)) in
     let none : MasterAt g.prog image area None =
     subst (MasterAt g.prog image area) (no_second chosen.first chosen.second chosen.choice) chosen.second_master in
     let same : part (formatted g image) area size ≡ part image area size = part-Torn 0 area image (formatted g image) area size torn (inr (omega arith)) fits in
@@ -156,7 +163,7 @@ visits_keeps result visit = record {
 }
 
 -- a refusal of a later part
-module _ (old mid new : FlashState) (kept : Keeps old mid) (steady : old.steady → mid.steady) where
+module _ (old mid new : FlashState) (kept : Keeps old mid) (steady : IsTrue old.steady → IsTrue mid.steady) where
   refusal_since : (e : KvError) → IsRefusal mid new e → IsRefusal old new e
   refusal_since ReadFault cause = (Rose-since kept.read_faults cause.0, λ was. cause.1 (steady was))
   refusal_since WriteFault cause = (Rose-since kept.write_faults cause.0, λ was. cause.1 (kept.sound was))

@@ -40,13 +40,14 @@ pub empty_table : (bits : ℕ) (entries : List Entry) → entries ≡ [] → IsT
 empty_table bits entries none = subst (IsTable bits no_places) (sym none) (record { keys = no_keys; is = no_entries bits })
 
 -- what holds of any device
-pub safe_of : (g : Geometry) (parts : Parts) (area : Area) → area ≡ area_of g parts.active → parts.active ≤ 1 → IsEnd g area parts.end → AreIn area parts.table.entries → HasRoomFor parts.spare parts.table
+pub safe_of : (g : Geometry) (parts : Parts) (area : Area) → area ≡ area_of g parts.active → parts.active ≤ 1 → IsEnd g area parts.end → AreIn area parts.table.entries → HasRoomFor parts.spare parts.table → parts.spare.entries ≡ []
     → IsSafe g parts
-safe_of g parts area is active end within room = record {
+safe_of g parts area is active end within room empty = record {
   active = active;
   end = subst (λ (a : Area). IsEnd g a parts.end) is end;
   within = subst (λ (a : Area). AreIn a parts.table.entries) is within;
   room = room;
+  spare = empty;
 }
 
 -- what holds of the image that is told

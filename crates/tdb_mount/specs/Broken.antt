@@ -17,8 +17,8 @@ broken_state geometry = record {
   tells_torn = false;
   torn = None;
   label = [];
-  steady = ⊥;
-  sound = ⊥;
+  steady = false;
+  sound = false;
 }
 
 abbrev no_image : Option (List ℕ)

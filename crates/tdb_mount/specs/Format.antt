@@ -1,10 +1,13 @@
 -- What a format leaves.
-use Rattle.std.specs.Prelude.{◌≡◌, ℕ, List, replicate, Option, Some, None, Result, OnOk}
+use Rattle.std.specs.Prelude.{◌≡◌, ◌⊎◌, ℕ, List, replicate, Option, Some, None, Result, OnOk}
 use Rattle.flash_core.specs.declared.geometry.Geometry.{Geometry}
 use Rattle.flash_core.specs.Images.{put, Torn}
+use Rattle.flash_core.specs.Erases.{ErasesUnits}
 use Rattle.flash_core.specs.Sizes.{area_size}
+use Rattle.flash_core.specs.State.{DeviceCall}
 use Rattle.record_core.specs.Mounts.{MasterAt, active_area}
 use Rattle.record_core.specs.Record.{master_bytes}
+use Rattle.record_core.specs.Written.{AppendsRecord, master_of}
 
 -- the image with its first area erased
 abbrev pub first_erased : Geometry → List ℕ → List ℕ
@@ -13,6 +16,20 @@ first_erased g image = put image 0 (replicate (area_size g) 255)
 -- and a master record of version 1 at its start
 abbrev pub formatted : Geometry → List ℕ → List ℕ
 formatted g image = put (first_erased g image) 0 (master_bytes g.prog 1)
+
+-- a moment of a format: of the erase of the first area's units, in ascending order, and then of the write of its master
+abbrev pub Formats : Geometry → List ℕ → Option DeviceCall → List ℕ → Type 0
+Formats g image call c =
+    ErasesUnits g 0 g.units_per_area image call c ⊎ AppendsRecord g.prog 0 (master_of 1) (first_erased g image) call c
+
+-- No area of the image is valid.
+pub record HasNoArea (g : Geometry) (image : List ℕ) : Type 0 where
+  pub first : MasterAt g.prog image 0 None
+  pub second : MasterAt g.prog image (area_size g) None
+
+-- a moment of a mount: the image at its entry, or, where no area of that is valid, a moment of a format of it
+abbrev pub MountsBy : Geometry → List ℕ → Option DeviceCall → List ℕ → Type 0
+MountsBy g image call c = ((call ≡ None) × (c ≡ image)) ⊎ (HasNoArea g image × Formats g image call c)
 
 -- What a mount leaves of an image: all of it where some area is valid. Else it is formatted, and after a refusal it
 -- stands outside the first area.

@@ -1,14 +1,12 @@
 -- The keys of a device by the places of their records.
-use Rattle.std.specs.Prelude.{◌≡◌, ◌≢◌, ℕ, zero, suc, ◌+◌, ◌-◌, ◌≤◌, ◌==◌, ◌&&◌, ◌||◌, not, nat_le, if◌then◌else◌, Bool, IsTrue, List, slice_range, Option, Some, None}
+use Rattle.std.specs.Prelude.{◌≡◌, ℕ, zero, suc, ◌+◌, ◌-◌, ◌≤◌, ◌==◌, ◌&&◌, ◌||◌, not, nat_le, if◌then◌else◌, Bool, IsTrue, List, slice_range, Option, Some, None}
 use Rattle.std.specs.FinMap.{empty, insert}
 use Rattle.std.specs.Int.{w16, w32, from_le_bytes}
 use Rattle.std.specs.Option.{option_map}
 use Rattle.std.specs.Str.{bytes_eq}
 use Rattle.flash_core.specs.declared.geometry.Geometry.{Geometry}
 use Rattle.flash_core.specs.Images.{part}
-use Rattle.flash_core.specs.State.{FlashState, IfTold}
-use Rattle.kv_model.specs.declared.error.KvError.{KvError}
-use Rattle.kv_model.specs.declared.error.KvError.TheVariants.{Corrupt}
+use Rattle.flash_core.specs.State.{FlashState}
 use Rattle.kv_model.specs.Flags.{remove_flags}
 use Rattle.kv_model.specs.Keys.{is_key}
 use Rattle.base_core.specs.Units.{up}
@@ -78,11 +76,3 @@ keys_of s area hash_bits = record {
   sound = s.sound;
   keys = option_map (keys_in s.geometry area) s.image;
 }
-
--- Two numbers that differ, where no key is spelled.
-pub record IsUnspelled (s : FlashState) (end place : ℕ) (e : KvError) : Type 0 where
-  pub stored : ℕ
-  pub computed : ℕ
-  pub is : e ≡ Corrupt stored computed
-  pub differ : stored ≢ computed
-  pub none : IfTold s.image (λ image. (key : List ℕ) → SpellsKey s.geometry.prog image end place key → ⊥)

@@ -1,17 +1,12 @@
 -- What a mount finds on a device.
-use Rattle.std.specs.Prelude.{◌≡◌, ◌↔◌, ℕ, ◌-◌, ◌≤◌, List, IsTrue, Some}
+use Rattle.std.specs.Prelude.{◌≡◌, ◌↔◌, ℕ, ◌-◌, ◌≤◌, List, [], IsTrue, Some}
 use Rattle.std.specs.FinMap.{get}
 use Rattle.flash_core.specs.declared.geometry.Geometry.{Geometry}
-use Rattle.base_core.specs.Counts.{Rose}
 use Rattle.flash_core.specs.Images.{IsErased}
-use Rattle.flash_core.specs.Sizes.{IsValid}
-use Rattle.flash_core.specs.State.{FlashState}
 use Rattle.kv_model.specs.Write.{map_of}
 use Rattle.record_core.specs.Mounts.{Contents, Holds, active_area}
 use Rattle.area_log.specs.Areas.{end_of, first_place, IsEnd}
 use Rattle.area_log.specs.Listing.{listed}
-use Rattle.tdb_mount.specs.declared.mount.MountError.{MountError}
-use Rattle.tdb_mount.specs.declared.mount.MountError.TheVariants.{BadGeometry, ReadFault, WriteFault, Memory}
 use Rattle.tdb_mount.specs.declared.mount.Parts.{Parts}
 use Rattle.tdb_mount.specs.Choice.{version_in}
 use Rattle.tdb_mount.specs.Index.{IsLinked, IsTable, places_of}
@@ -23,6 +18,7 @@ pub record IsSafe (g : Geometry) (parts : Parts) : Type 0 where
   pub end : IsEnd g (area_of g parts.active) parts.end
   pub within : AreIn (area_of g parts.active) parts.table.entries
   pub room : HasRoomFor parts.spare parts.table
+  pub spare : parts.spare.entries ≡ []
 
 -- What was found stands for what this image holds. The table has the place of each key's last record, and at that place
 -- stands the record by which the key has its value in the map.
@@ -36,11 +32,3 @@ pub record IsMountOf (g : Geometry) (hash_bits : ℕ) (image : List ℕ) (parts 
   pub linked : (key : List ℕ) → IsLinked g.prog image parts.end key
       (get (places_of (listed g.prog (first_place g (area_of g parts.active)) contents.records)) key) (get (map_of contents.records) key)
   pub clean : IsTrue parts.clean ↔ IsErased image parts.end (end_of (area_of g parts.active) - parts.end)
-
--- Why a mount was refused. A fault comes only where its count rose, none on a sound device, and none of a read on a
--- steady one.
-abbrev pub IsMountRefusal : FlashState → FlashState → MountError → Type 0
-IsMountRefusal old new BadGeometry = IsValid old.geometry → ⊥
-IsMountRefusal old new ReadFault = Rose old.read_faults new.read_faults × (old.steady → ⊥)
-IsMountRefusal old new WriteFault = Rose old.write_faults new.write_faults × (old.sound → ⊥)
-IsMountRefusal old new Memory = Unit {0}

@@ -17,24 +17,10 @@ use area_log::{Area, Visitor};
 use flash_core::Flash;
 use kv_model::{Key, KvError};
 use ram_table::{Place, RamTable, Steps};
-use record_core::{Header, crc};
+use record_core::{Header, REMOVE, hash_of};
 use std::alloc::Global;
 use std::marker::{Brand, PhantomData};
 use std::sync::ledger::{Blank, Ledger};
-
-const CRC_START: u32 = 0xFFFF_FFFF;
-
-// The flags of a record that takes its key out.
-const REMOVED: u32 = 0x8000_0000;
-
-/// The low bits of the key's CRC, at most 32 of them.
-pub fn hash_of(key: &Key, hash_bits: u8) -> u32
-    requires { hash_bits ≤ 32 }
-    ensures { result ≡ key_hash hash_bits key.now }
-{
-    let sum = u64::from(crc(CRC_START, key.as_slice()));
-    (sum % (1 << hash_bits)) as u32
-}
 
 /// Where the key stands in the table, whose entries are of this area, or would stand. It refuses as `RamTable::find`
 /// does over the keys of the area.
@@ -92,6 +78,7 @@ pub struct Builder<B: HashBits> {
     ghost bits: { hash_bits ≤ 32 },
     ghost within: { AreIn area table.entries },
     ghost room: { HasRoomFor spare table },
+    ghost empty: { spare.entries ≡ [] },
 }
 
 impl<B: HashBits> Builder<B> {
@@ -192,7 +179,7 @@ impl<B: HashBits> Visitor for Builder<B> {
         match place_of::<Brand, F>(&self.table, flash, self.area, self.hash_bits, key, blank) {
             Ok(place) => {
                 let hash = hash_of(key, self.hash_bits);
-                self.take_in(place, hash, at, header.flags == REMOVED)
+                self.take_in(place, hash, at, header.flags == REMOVE)
             }
             // The header that the entry stands for can't be read any more: its record is left out.
             Err(KvError::Corrupt { .. }) => Ok(()),

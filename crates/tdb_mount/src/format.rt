@@ -1,55 +1,50 @@
 //! Formatting the first area of a device.
-ghost use Rattle.std.specs.Prelude.{◌≡◌, ◌≤◌, length, IsOk, IfErr, OnOk, Some};
-ghost use Rattle.base_core.specs.Counts.{Rose};
-ghost use Rattle.flash_core.specs.Calls.{Keeps};
-ghost use Rattle.flash_core.specs.Images.{Torn};
+ghost use Rattle.std.specs.Prelude.{◌≡◌, ◌≤◌, length, IfErr, Some};
+ghost use Rattle.flash_core.specs.Moments.{Within};
+ghost use Rattle.flash_core.specs.Runs.{RunsBy};
 ghost use Rattle.flash_core.specs.Sizes.{IsValid, area_size};
-ghost use Rattle.flash_core.specs.State.{IfTold};
+ghost use Rattle.flash_core.specs.State.{OnImage};
 ghost use Rattle.kv_model.specs.declared.error.KvError.TheVariants.{WriteFault};
-ghost use Rattle.tdb_mount.specs.Format.{first_erased, formatted};
+ghost use Rattle.record_core.specs.Endings.{kv_ended};
+ghost use Rattle.tdb_mount.specs.Format.{Formats, first_erased, formatted};
 
-use flash_core::{Flash, FlashFault};
+use flash_core::{Flash, erase_units};
 use kv_model::KvError;
 use record_core::write_master;
 
 const FIRST_VERSION: u16 = 1;
 
 // Erases the first area, a unit at a time.
-fn erase_first<F: Flash>(flash: &mut F) -> Result<(), FlashFault>
+fn erase_first<F: Flash>(flash: &mut F) -> Result<(), KvError>
     requires { IsValid (F.state flash.old).geometry }
-    ensures kept { Keeps (F.state flash.old) (F.state flash.new) }
-    ensures steady { (F.state flash.old).steady → OnOk result (F.state flash.new).steady }
-    ensures sound { (F.state flash.old).sound → IsOk result }
-    ensures cause { IfErr result (λ fault. Rose (F.state flash.old).write_faults (F.state flash.new).write_faults) }
-    ensures erased { IfTold (F.state flash.old).image (λ image.
-        OnOk result ((F.state flash.new).image ≡ Some (first_erased (F.state flash.old).geometry image))) }
-    ensures outside { IfTold (F.state flash.old).image (λ image. IfTold (F.state flash.new).image (λ left.
-        Torn 0 (area_size (F.state flash.old).geometry) image left)) }
+    ensures runs { RunsBy (F.state flash.old) (F.state flash.new)
+        (Formats (F.state flash.old).geometry) (kv_ended result) }
+    ensures fault { IfErr result (λ e. e ≡ WriteFault) }
+    ensures erased { OnImage (F.state flash.old).image result (λ image.
+        (F.state flash.new).image ≡ Some (first_erased (F.state flash.old).geometry image)) }
 {
-    let geometry = flash.geometry();
-    for unit in 0..geometry.units_per_area {
-        flash.erase(unit * geometry.erase)?;
+    let units = flash.geometry().units_per_area;
+    match erase_units(flash, 0, units) {
+        Ok(()) => Ok(()),
+        Err(_) => Err(KvError::WriteFault),
     }
-    Ok(())
 }
 
-/// Erases the first area and writes a master record of version 1 at its start. `WriteFault` comes only where the
-/// count of write faults rose. Nothing outside the area differs, also after a fault.
+/// Erases the first area's units in ascending order and then writes a master record of version 1 at its
+/// start. `WriteFault` comes only where the count of write faults rose. At each moment, and after a fault,
+/// nothing outside the area differs.
 pub fn format<F: Flash>(flash: &mut F, work: &mut [u8]) -> Result<(), KvError>
     requires valid { IsValid (F.state flash.old).geometry }
     requires unit { (F.state flash.old).geometry.prog ≤ length work.old }
     requires least { 64 ≤ length work.old }
-    ensures kept { Keeps (F.state flash.old) (F.state flash.new) }
-    ensures steady { (F.state flash.old).steady → OnOk result (F.state flash.new).steady }
-    ensures sound { (F.state flash.old).sound → IsOk result }
-    ensures cause { IfErr result (λ e. (e ≡ WriteFault) × Rose (F.state flash.old).write_faults (F.state flash.new).write_faults) }
-    ensures formatted { IfTold (F.state flash.old).image (λ image.
-        OnOk result ((F.state flash.new).image ≡ Some (formatted (F.state flash.old).geometry image))) }
-    ensures outside { IfTold (F.state flash.old).image (λ image. IfTold (F.state flash.new).image (λ left.
-        Torn 0 (area_size (F.state flash.old).geometry) image left)) }
+    ensures runs { RunsBy (F.state flash.old) (F.state flash.new)
+        (Formats (F.state flash.old).geometry) (kv_ended result) }
+    ensures within { RunsBy (F.state flash.old) (F.state flash.new)
+        (Within 0 (area_size (F.state flash.old).geometry)) (kv_ended result) }
+    ensures fault { IfErr result (λ e. e ≡ WriteFault) }
+    ensures formatted { OnImage (F.state flash.old).image result (λ image.
+        (F.state flash.new).image ≡ Some (formatted (F.state flash.old).geometry image)) }
 {
-    match erase_first(flash) {
-        Ok(()) => Ok(write_master(flash, 0, FIRST_VERSION, work)?),
-        Err(_) => Err(KvError::WriteFault),
-    }
+    erase_first(flash)?;
+    write_master(flash, 0, FIRST_VERSION, work)
 }

@@ -12,7 +12,7 @@ mod keys;
 mod laws;
 mod mount;
 
-pub use builder::{hash_of, place_of};
+pub use builder::place_of;
 pub use keys::DeviceKeys;
 pub use laws::{
     keys_are_told_as_spelled, last_record_has_the_place, mounting_keeps_the_map,

@@ -1,17 +1,17 @@
 //! Mounting a device.
-ghost use Rattle.std.specs.Prelude.{◌≡◌, ◌≢◌, ◌↔◌, ◌+◌, ◌*◌, ◌≤◌, ℕ, length, IfOk, IfSome, IfErr, OnOk};
-ghost use Rattle.base_core.specs.Counts.{Rose};
-ghost use Rattle.flash_core.specs.Calls.{Keeps};
+ghost use Rattle.std.specs.Prelude.{◌≡◌, ◌≢◌, ◌↔◌, ◌+◌, ◌*◌, ◌≤◌, ℕ, length, IfOk, IfSome, IfErr};
+ghost use Rattle.flash_core.specs.Runs.{RunsBy};
 ghost use Rattle.flash_core.specs.Sizes.{IsValid, area_size};
 ghost use Rattle.flash_core.specs.State.{IfTold};
 ghost use Rattle.kv_model.specs.declared.error.KvError.{KvError};
+ghost use Rattle.record_core.specs.Endings.{kv_ended};
 ghost use Rattle.record_core.specs.Reading.{HasRead};
 ghost use Rattle.area_log.specs.Areas.{IsAreaOf};
 ghost use Rattle.area_log.specs.Reading.{Visits};
 ghost use Rattle.tdb_mount.specs.Choice.{ChosenIn, IsActiveIn};
-ghost use Rattle.tdb_mount.specs.Format.{Leaves};
-ghost use Rattle.tdb_mount.specs.Mounted.{IsMountOf, IsMountRefusal, IsSafe};
-ghost use Rattle.tdb_mount.specs.Refusals.{IsRefusal, refusal_of};
+ghost use Rattle.tdb_mount.specs.Format.{Leaves, MountsBy};
+ghost use Rattle.tdb_mount.specs.Mounted.{IsMountOf, IsSafe};
+ghost use Rattle.tdb_mount.specs.Refusals.{IsRefusal, IsWalkRefusal, mount_ended, refusal_of};
 ghost use Rattle.tdb_mount.specs.Room.{area_of};
 
 use crate::active::{Active, choose};
@@ -103,8 +103,8 @@ fn find_active<F: Flash>(flash: &mut F, work: &mut [u8]) -> Result<Active, KvErr
     requires valid { IsValid (F.state flash.old).geometry }
     requires unit { (F.state flash.old).geometry.prog ≤ length work.old }
     requires least { 64 ≤ length work.old }
-    ensures kept { Keeps (F.state flash.old) (F.state flash.new) }
-    ensures steady { (F.state flash.old).steady → OnOk result (F.state flash.new).steady }
+    ensures runs { RunsBy (F.state flash.old) (F.state flash.new)
+        (MountsBy (F.state flash.old).geometry) (kv_ended result) }
     ensures cause { IfErr result (IsRefusal (F.state flash.old) (F.state flash.new)) }
     ensures number { IfOk result (λ active. active.number ≤ 1) }
     ensures leaves { IfTold (F.state flash.old).image (λ image. IfTold (F.state flash.new).image (λ left.
@@ -139,7 +139,7 @@ fn walk<B: HashBits, F: Flash>(
     requires number { active.number ≤ 1 }
     requires active { IfTold (F.state flash.old).image (λ image. IsActiveIn (F.state flash.old).geometry image active) }
     ensures visits { Visits (F.state flash.old) (F.state flash.new) result }
-    ensures cause { IfErr result (IsRefusal (F.state flash.old) (F.state flash.new)) }
+    ensures cause { IfErr result (IsWalkRefusal (F.state flash.old) (F.state flash.new)) }
     ensures safe { IfOk result (IsSafe (F.state flash.old).geometry) }
     ensures mounted { IfTold (F.state flash.old).image (λ image. IfOk result (IsMountOf (F.state flash.old).geometry hash_bits image)) }
 {
@@ -162,8 +162,8 @@ fn walk<B: HashBits, F: Flash>(
 fn mount_valid<F: Flash>(alloc: Global, flash: &mut F, hash_bits: u8) -> Result<Parts, KvError>
     requires valid { IsValid (F.state flash.old).geometry }
     requires bits { hash_bits ≤ 32 }
-    ensures kept { Keeps (F.state flash.old) (F.state flash.new) }
-    ensures steady { (F.state flash.old).steady → OnOk result (F.state flash.new).steady }
+    ensures runs { RunsBy (F.state flash.old) (F.state flash.new)
+        (MountsBy (F.state flash.old).geometry) (kv_ended result) }
     ensures cause { IfErr result (IsRefusal (F.state flash.old) (F.state flash.new)) }
     ensures safe { IfOk result (IsSafe (F.state flash.old).geometry) }
     ensures leaves { IfTold (F.state flash.old).image (λ image. IfTold (F.state flash.new).image (λ left.
@@ -195,9 +195,8 @@ pub fn mount_parts<F: Flash>(
 
     ensures bad_geometry { (result ≡ Err MountError.BadGeometry) ↔ (IsValid (F.state flash.old).geometry → ⊥) }
     ensures untouched { (IsValid (F.state flash.old).geometry → ⊥) → flash.new ≡ flash.old }
-    ensures cause { IfErr result (IsMountRefusal (F.state flash.old) (F.state flash.new)) }
-    ensures kept { Keeps (F.state flash.old) (F.state flash.new) }
-    ensures steady { (F.state flash.old).steady → OnOk result (F.state flash.new).steady }
+    ensures runs { RunsBy (F.state flash.old) (F.state flash.new)
+        (MountsBy (F.state flash.old).geometry) (mount_ended result) }
     ensures safe { IfOk result (IsSafe (F.state flash.old).geometry) }
     // what the device holds afterwards, where it tells its image
     ensures mounted { IfTold (F.state flash.new).image (λ image. IfOk result (IsMountOf (F.state flash.old).geometry hash_bits image)) }

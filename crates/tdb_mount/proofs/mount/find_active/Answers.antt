@@ -2,6 +2,9 @@ use Rattle.std.proofs.Common.{sym, ◌∙◌, subst}
 use Rattle.std.specs.Prelude.{Ok, Option}
 use Rattle.tdb_mount.specs.declared.active.Active.{Active}
 use Rattle.tdb_mount.specs.Choice.{ChosenIn}
+use Rattle.record_core.proofs.EndingLemmas.{handed_error}
+use Rattle.tdb_mount.proofs.FormatLemmas.{within_torn}
+use Rattle.tdb_mount.proofs.RunLemmas.{format_runs, read_by}
 use Rattle.tdb_mount.proofs.MountLemmas.{format_active, format_failed, format_leaves, leaves_active, some_is}
 use Rattle.tdb_mount.proofs.mount.find_active.Goals as goal
 
@@ -11,8 +14,8 @@ returns-in_err-format-in-None-clause-leaves g c =
     let mid = g.F.Flash.state c.read_active.new.flash in
     let new = g.F.Flash.state c.format.new.flash in
     let done = c.in_err-format-in-None.ensures in
-    format_failed old mid new c.requires.valid (g.met.F.Flash.lawful c.args.flash.now) c.in_ok-active.ensures.reads.kept done.kept
-    (λ image told. subst (λ (o : Option Active). ChosenIn old.geometry image o) c.in-None.is (c.in_ok-active.ensures.chosen image told)) done.outside
+    format_failed old mid new c.requires.valid (g.met.F.Flash.lawful c.args.flash.now) c.in_ok-active.ensures.reads.kept done.runs.kept
+    (λ image told. subst (λ (o : Option Active). ChosenIn old.geometry image o) c.in-None.is (c.in_ok-active.ensures.chosen image told)) (within_torn 0 _ _ done.within)
     c.from_residual-in_err-format-in-None.result c.from_residual-in_err-format-in-None.ensures.0
 
 pub returns-in-Some-clause-leaves : goal.returns-in-Some-clause-leaves
@@ -29,8 +32,8 @@ returns-in_ok-format-in-None-clause-leaves g c =
     let new = g.F.Flash.state c.format.new.flash in
     let only = c.in_ok-active.ensures.reads.kept in
     let done = c.in_ok-format-in-None.ensures in
-    format_leaves old mid new c.requires.valid (g.met.F.Flash.lawful c.args.flash.now) only done.kept
-    (λ image told. subst (λ (o : Option Active). ChosenIn old.geometry image o) c.in-None.is (c.in_ok-active.ensures.chosen image told)) done.outside done.formatted (record { number = 0; version = 1 })
+    format_leaves old mid new c.requires.valid (g.met.F.Flash.lawful c.args.flash.now) only done.runs.kept
+    (λ image told. subst (λ (o : Option Active). ChosenIn old.geometry image o) c.in-None.is (c.in_ok-active.ensures.chosen image told)) (within_torn 0 _ _ done.within) done.formatted (record { number = 0; version = 1 })
 
 pub returns-in_ok-format-in-None-clause-active : goal.returns-in_ok-format-in-None-clause-active
 returns-in_ok-format-in-None-clause-active g c =
@@ -39,5 +42,18 @@ returns-in_ok-format-in-None-clause-active g c =
     let new = g.F.Flash.state c.format.new.flash in
     let only = c.in_ok-active.ensures.reads.kept in
     let done = c.in_ok-format-in-None.ensures in
-    format_active old mid new c.requires.valid (g.met.F.Flash.lawful c.args.flash.now) only done.kept
-    (λ image told. subst (λ (o : Option Active). ChosenIn old.geometry image o) c.in-None.is (c.in_ok-active.ensures.chosen image told)) done.outside done.formatted
+    format_active old mid new c.requires.valid (g.met.F.Flash.lawful c.args.flash.now) only done.runs.kept
+    (λ image told. subst (λ (o : Option Active). ChosenIn old.geometry image o) c.in-None.is (c.in_ok-active.ensures.chosen image told)) (within_torn 0 _ _ done.within) done.formatted
+
+pub returns-in_err-format-in-None-clause-runs : goal.returns-in_err-format-in-None-clause-runs
+returns-in_err-format-in-None-clause-runs g c =
+    let old = g.F.Flash.state c.args.flash.now in
+    handed_error c.from_residual-in_err-format-in-None.result c.in_err-format-in-None.field-0.0 c.from_residual-in_err-format-in-None.ensures.1
+    (format_runs (read_by (Ok c.in_ok-active.field-0) c.in_ok-active.ensures.reads)
+    (λ image told. subst (λ (o : Option Active). ChosenIn old.geometry image o) c.in-None.is (c.in_ok-active.ensures.chosen image told)) c.in_err-format-in-None.ensures.runs)
+
+pub returns-in_ok-format-in-None-clause-runs : goal.returns-in_ok-format-in-None-clause-runs
+returns-in_ok-format-in-None-clause-runs g c =
+    let old = g.F.Flash.state c.args.flash.now in
+    format_runs (read_by (Ok c.in_ok-active.field-0) c.in_ok-active.ensures.reads)
+    (λ image told. subst (λ (o : Option Active). ChosenIn old.geometry image o) c.in-None.is (c.in_ok-active.ensures.chosen image told)) c.in_ok-format-in-None.ensures.runs

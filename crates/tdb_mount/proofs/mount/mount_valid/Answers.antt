@@ -3,7 +3,8 @@ use Rattle.std.specs.Prelude.{Some}
 use Rattle.flash_core.specs.declared.geometry.Geometry.{Geometry}
 use Rattle.flash_core.proofs.KeptLaws.{Keeps-trans}
 use Rattle.tdb_mount.specs.Choice.{ChosenIn}
-use Rattle.tdb_mount.proofs.MountLemmas.{cause_since, found_leaves, refused_leaves, visits_keeps}
+use Rattle.tdb_mount.proofs.MountLemmas.{cause_since, found_leaves, refused_leaves}
+use Rattle.tdb_mount.proofs.RunLemmas.{walk_cause, walk_runs}
 use Rattle.tdb_mount.proofs.mount.mount_valid.Goals as goal
 
 pub returns-in_err-active-clause-leaves : goal.returns-in_err-active-clause-leaves
@@ -13,13 +14,15 @@ returns-in_err-active-clause-leaves g c image told left stands =
 
 pub walk-requires-clause-active : goal.walk-requires-clause-active
 walk-requires-clause-active g c image told =
-    subst (λ (x : Geometry). ChosenIn x image (Some c.in_ok-active.active)) (sym c.in_ok-active.ensures.kept.geometry) (c.in_ok-active.ensures.active image told)
+    subst (λ (x : Geometry). ChosenIn x image (Some c.in_ok-active.active)) (sym c.in_ok-active.ensures.runs.kept.geometry) (c.in_ok-active.ensures.active image told)
 
-pub returns-clause-kept : goal.returns-clause-kept
-returns-clause-kept g c = Keeps-trans c.in_ok-active.ensures.kept (visits_keeps c.walk.result c.walk.ensures.visits)
+pub returns-clause-runs : goal.returns-clause-runs
+returns-clause-runs g c = walk_runs c.walk.result c.in_ok-active.ensures.runs c.walk.ensures.visits c.walk.ensures.cause
 
 pub returns-clause-cause : goal.returns-clause-cause
-returns-clause-cause g c = cause_since (g.F.Flash.state c.args.flash.now) (g.F.Flash.state c.find_active.new.flash) (g.F.Flash.state c.walk.new.flash) c.in_ok-active.ensures.kept c.in_ok-active.ensures.steady c.walk.result c.walk.ensures.cause
+returns-clause-cause g c =
+    cause_since (g.F.Flash.state c.args.flash.now) (g.F.Flash.state c.find_active.new.flash) (g.F.Flash.state c.walk.new.flash) c.in_ok-active.ensures.runs.kept c.in_ok-active.ensures.runs.steady c.walk.result
+    (walk_cause (g.F.Flash.state c.find_active.new.flash) (g.F.Flash.state c.walk.new.flash) c.walk.result c.walk.ensures.cause)
 
 pub returns-clause-leaves : goal.returns-clause-leaves
 returns-clause-leaves g c image told left stands =

@@ -26,6 +26,7 @@ returns-clause-safe g c =
     safe_of s.geometry _ area (c.area_at-area.ensures.area ∙ ap (λ (x : Geometry). area_of x c.args.active.number) c.geometry.ensures) c.requires.number c.in_ok-end.ensures.end
     (subst (λ (t : TableState). AreIn area t.entries) (sym table) (subst (λ (a : Area). AreIn a builder.table.entries) c.in_ok-end.ensures.same builder.within))
     (subst (λ (t : TableState). HasRoomFor c.into_tables-table.result.1 t) (sym table) (subst (λ (t : TableState). HasRoomFor t builder.table) (sym spare) builder.room))
+    (ap (λ (t : TableState). t.entries) spare ∙ builder.empty)
 
 pub returns-clause-mounted : goal.returns-clause-mounted
 returns-clause-mounted g c image told =

@@ -17,6 +17,7 @@ invariant_of-self g c =
       bits = self.bits;
       within = subst (AreIn self.area) (sym is) (AreIn-remove self.area self.table.entries c.args.place.at self.within inside);
       room = omega (arith, self.room, ap (length {A = Entry}) is, length-remove self.table.entries c.args.place.at inside);
+      empty = self.empty;
     }
 
 pub invariant_of-self-in-false-false : goal.invariant_of-self-in-false-false
@@ -39,4 +40,5 @@ invariant_of-self-in-false-false g c =
         ap (length {A = Entry}) is,
         length-insert self.table.entries c.args.place.at entry inside,
       );
+      empty = self.empty;
     }
