@@ -192,11 +192,10 @@ module _ {old new : FlashState} (device : IsTold old) (kept : Keeps old new) whe
     }
 
     pub stands_after : (masters : Masters) (records : List Write) (state : StoreState) → StandsFor old area end entries masters records state
-        → StandsFor new area (end + extent g.prog r) (changed entries place hash end is_remove) masters (records ++ r ∷ []) (after_record g.prog state r)
+        → StandsFor new area (end + extent g.prog r) (changed entries place hash end is_remove) masters (records ++ r ∷ []) (after_record state r)
     stands_after masters records state stood = record {
       log = still_log masters records stood.log;
       map_is = ap (applied r) stood.map_is ∙ sym (map_of-append records r);
-      spent = omega (arith, stood.spent, ap (λ (x : Geometry). first_place x area) kept.geometry);
       running = stood.running;
       no_set = stood.no_set;
     }
@@ -207,9 +206,9 @@ applied_plain m key stored plain =
     sym (ap (λ (removes : Bool). if removes then map.remove m key else map.insert m key stored) (ne_eqb stored.flags remove_flags (λ same. omega arith)))
 
 -- what a state is once a value was set
-pub set_state : (prog : ℕ) (state : StoreState) (key : List ℕ) (stored : Stored) → stored.flags < 2 → after_record prog state (record_of key stored) ≡ with_record prog state key stored
-set_state prog state key stored plain =
-    ap (λ (m : FlaggedMap). record state { spent = state.spent + extent prog (record_of key stored); primary = m }) (sym (applied_plain state.primary key stored plain))
+pub set_state : (state : StoreState) (key : List ℕ) (stored : Stored) → stored.flags < 2 → after_record state (record_of key stored) ≡ with_record state key stored
+set_state state key stored plain =
+    ap (λ (m : FlaggedMap). record state { primary = m }) (sym (applied_plain state.primary key stored plain))
 
 -- what is answered of an append, where nothing but memory can be wanting
 pub append_answer : (result : Result Reply KvError) (Q X : Type 0) (P : Reply → Type 0) → IfOk result (λ reply. reply ≡ Done) → IfErr result (λ error. (error ≡ Memory) × X) → OnOk result Q → (Q → P Done)

@@ -31,7 +31,6 @@ use Rattle.tdb_mount.proofs.FormatLemmas.{length-erased, master_in_area}
 use Rattle.kv_cli.specs.Writing.{image_of, IsTold}
 use Rattle.kv_cli.specs.LogStore.{HasDirtyTail, Masters, IsLogOf, IsReady, StandsFor, hash_bits}
 use Rattle.kv_cli.proofs.AppendLemmas.{still_told}
-use Rattle.kv_cli.proofs.TableLemmas.{begins}
 
 abbrev masters_of : Contents → Masters
 masters_of contents = record { first = contents.first; second = contents.second }
@@ -77,13 +76,12 @@ module _ {old new : FlashState} (device : IsTold old) (kept : Keeps old new) (la
 
   -- the state that these contents stand for
   pub mounted_stands : (vector : ℕ) (contents : Contents) → Holds old.geometry (image_of new) contents
-      → StandsFor new area parts.end parts.table.entries (masters_of contents) contents.records (fresh_state (map_of contents.records) empty vector (parts.end - first_place old.geometry area))
+      → StandsFor new area parts.end parts.table.entries (masters_of contents) contents.records (fresh_state (map_of contents.records) empty vector)
   mounted_stands vector contents holds =
       let same : is.contents ≡ contents = one_contents g (image_of new) (prog_positive g valid) is.contents contents is.holds (subst (λ (x : Geometry). Holds x (image_of new) contents) (sym kept.geometry) holds) in
       record {
         log = subst (λ (x : Contents). IsLogOf g (image_of new) area parts.end parts.table.entries (masters_of x) x.records) same log;
         map_is = refl;
-        spent = omega (arith, begins g valid (image_of new) area parts.end parts.table.entries (masters_of is.contents) is.contents.records log, ap (λ (x : Geometry). first_place x area) kept.geometry);
         running = refl;
         no_set = refl;
       }

@@ -17,6 +17,7 @@ use Rattle.kv_model.specs.declared.error.KvError.{KvError}
 use Rattle.kv_model.specs.declared.error.KvError.TheVariants.{InvalidSize, Memory, NotFound}
 use Rattle.record_core.specs.Log.{IsRecordAt}
 use Rattle.area_log.specs.Reading.{Gives, IsNotRead, IsWithin, filled}
+use Rattle.kv_model.specs.declared.limits.TheConstants.{MAX_VALUE}
 use Rattle.kv_cli.specs.LogStore.{IfAnswered}
 use Rattle.kv_cli.specs.Reading.{IsPartOf}
 use Rattle.kv_cli.specs.Writing.{image_of, IsTold}
@@ -76,7 +77,7 @@ pub never_below_none : (n : ℕ) → nat_lt n 0 ≡ true → ⊥
 never_below_none n is = grind (arith, nat_tests)
 
 -- all of a value is a part of it
-pub all_of : (value : List ℕ) → length value ≤ 65592 → take 4294967295 (drop 0 value) ≡ value
+pub all_of : (value : List ℕ) → length value ≤ MAX_VALUE → take 4294967295 (drop 0 value) ≡ value
 all_of value most = take_all 4294967295 value (omega arith)
 
 -- the reply of a call that was answered

@@ -18,27 +18,35 @@ use Rattle.kv_model.specs.declared.call.Reply.TheVariants.{Done}
 use Rattle.kv_model.specs.declared.call.Reply.TheVariants as reply
 use Rattle.kv_model.specs.StoreState.{StoreState, OpenSet}
 use Rattle.kv_model.specs.Operations.{Operation, operation_of}
-use Rattle.kv_model.specs.PlainStep.{plain_step, plain_rules}
-use Rattle.kv_model.specs.History.{AreNumbered, Runs}
-use Rattle.kv_model.specs.Rules.{Mounts, Steps}
+use Rattle.kv_model.specs.Constants.{Constants}
+use Rattle.kv_model.specs.History.{AreNumbered, Follows}
+use Rattle.kv_model.specs.Rules.{Mounts, Rules, Steps}
 use Rattle.kv_model.specs.Write.{Write}
 use Rattle.kv_model.specs.Writes.{set_after, written, writes}
-use Rattle.kv_model.proofs.HistoryLemmas.{runs_more}
+use Rattle.kv_model.proofs.HistoryLemmas.{AreNumbered-push}
 use Rattle.area_log.specs.declared.area.Area.{Area}
 use Rattle.ram_table.specs.declared.table.Entry.{Entry as Slot}
 use Rattle.script_core.specs.declared.line.Line.{Line}
 use Rattle.script_core.specs.declared.line.Act.TheVariants.{Do}
 use Rattle.journal_core.specs.JournalState.{next_entry}
+use Rattle.kv_cli.specs.EarlyStore.{EarlyRuns, early_rules, spent_by}
 use Rattle.kv_cli.specs.Inputs.{IsEarlyAct}
-use Rattle.kv_cli.specs.LogStore.{IsReady, StandsFor, HasStepped, grown}
+use Rattle.kv_cli.specs.LogStore.{IsReady, StandsFor, HasStepped, grown, step_behind}
 use Rattle.kv_cli.specs.Replays.{run_constants, run_geometry, IsReplayOf, first_masters, first_state, called, asked, asked_by, IsFaultless}
 use Rattle.kv_cli.specs.Runs.{HasRun, HasGoneOn}
 
--- numbered entries, and one more behind them
-numbered_more : (earlier entries : List Entry) (entry : Entry) → AreNumbered earlier entries → AreNumbered (earlier ++ entries) (entry ∷ []) → AreNumbered earlier (entries ++ entry ∷ [])
-numbered_more earlier [] entry numbered next = subst (λ (l : List Entry). AreNumbered l (entry ∷ [])) (append-nil earlier) next
-numbered_more earlier (e ∷ entries) entry numbered next =
-    (numbered.0, numbered.1, numbered_more (earlier ++ e ∷ []) entries entry numbered.2 (subst (λ (l : List Entry). AreNumbered l (entry ∷ [])) (sym (append_assoc earlier (e ∷ []) entries)) next))
+-- what entries behind these follow by
+abbrev rules_behind : Constants → List Entry → Rules
+rules_behind constants earlier = early_rules constants (spent_by constants.prog (writes None earlier))
+
+-- a history that goes on by one entry
+EarlyRuns-push : (constants : Constants) (earlier : List Entry) (old mid new : StoreState) (entries : List Entry) (entry : Entry) → EarlyRuns constants earlier old entries mid
+    → Follows (rules_behind constants (earlier ++ entries)) mid entry new → EarlyRuns constants earlier old (entries ++ entry ∷ []) new
+EarlyRuns-push constants earlier old mid new [] entry runs follows =
+    (new, subst (λ (l : List Entry). Follows (rules_behind constants l) old entry new) (append-nil earlier) (subst (λ (s : StoreState). Follows (rules_behind constants (earlier ++ [])) s entry new) runs follows), refl)
+EarlyRuns-push constants earlier old mid new (e ∷ entries) entry (next, first, runs) follows =
+    (next, first, EarlyRuns-push constants (earlier ++ e ∷ []) next mid new entries entry runs
+    (subst (λ (l : List Entry). Follows (rules_behind constants l) mid entry new) (sym (append_assoc earlier (e ∷ []) entries)) follows))
 
 -- what a history writes, of which this is the last entry
 written_last : (old : List Entry) (entry : Entry) → ((more : List Entry) → writes None (old ++ more) ≡ writes None old ++ writes None more)
@@ -58,9 +66,9 @@ pub run_more : (lines : List Line) (line : Line) (old new : List Entry) (s t : F
     → (run : HasRun lines old s area end slots) → HasGoneOn (writes None old) run.last line old new t area_now later others → HasRun (lines ++ line ∷ []) new t area_now later others
 run_more lines line old new s t area area_now end later slots others run gone = record {
   last = gone.after;
-  numbered = subst (AreNumbered []) (sym gone.appended) (numbered_more [] old gone.entry run.numbered gone.numbered);
-  runs = subst (λ (entries : List Entry). Runs (plain_rules run_constants) first_state entries gone.after) (sym gone.appended)
-      (runs_more (plain_rules run_constants) first_state run.last gone.after old gone.entry run.runs gone.follows);
+  numbered = subst (AreNumbered []) (sym gone.appended) (AreNumbered-push [] old gone.entry run.numbered gone.numbered);
+  runs = subst (λ (entries : List Entry). EarlyRuns run_constants [] first_state entries gone.after) (sym gone.appended)
+      (EarlyRuns-push run_constants [] first_state run.last gone.after old gone.entry run.runs gone.follows);
   in_order = ap (map called) gone.appended ∙ map-append called old (gone.entry ∷ []) ∙ ap (λ (l : List (ℕ × Call)). l ++ called gone.entry ∷ []) run.in_order
       ∙ ap (λ (l : List (ℕ × Call)). flat_map asked lines ++ l) (gone.asked_for ∙ sym (append-nil (asked line))) ∙ sym (flat_map-append asked lines (line ∷ []));
   faultless = subst (All (λ (entry : Entry). IsFaultless entry.reply)) (sym gone.appended) (All-push (λ (entry : Entry). IsFaultless entry.reply) old gone.entry run.faultless gone.faultless);
@@ -69,22 +77,26 @@ run_more lines line old new s t area area_now end later slots others run gone = 
   stands = subst (λ (records : List Write). StandsFor t area_now later others first_masters records gone.after) (sym (written_last old gone.entry run.no_set) ∙ ap (writes None) (sym gone.appended)) gone.stands;
 }
 
+-- what a call behind these records follows by
+abbrev run_rules : List Write → Rules
+run_rules records = early_rules run_constants (spent_by run_constants.prog records)
+
 -- what the store's step gives a history
 pub record Next (records : List Write) (state : StoreState) (who : ℕ) (asks : Option Operation) (reply : Reply) (s : FlashState) (area : Area) (end : ℕ) (slots : List Slot) : Type 0 where
   pub after : StoreState
-  pub follows : MatchOption asks ((reply ≡ Done) × Mounts (plain_rules run_constants) state after) (λ operation. Steps (plain_rules run_constants) state who operation (record { state = after; reply = reply }))
+  pub follows : MatchOption asks ((reply ≡ Done) × Mounts (run_rules records) state after) (λ operation. Steps (run_rules records) state who operation (record { state = after; reply = reply }))
   pub faultless : IsFaultless reply
   pub stands : StandsFor s area end slots first_masters (option_map_or (λ (operation : Operation). grown records operation reply) asks records) after
 
 pub stepped_next : (records : List Write) (state : StoreState) (who : ℕ) (asks : Option Operation) (reply : Reply) (s : FlashState) (area : Area) (end : ℕ) (slots : List Slot)
-    → MatchOption asks ⊥ (λ operation. IsFaultless (plain_step run_constants state who operation).reply)
+    → MatchOption asks ⊥ (λ operation. IsFaultless (step_behind run_constants records state who operation).reply)
     → MatchOption asks ⊥ (λ operation. HasStepped run_constants first_masters records state who operation reply s area end slots) → Next records state who asks reply s area end slots
 stepped_next records state who None reply s area end slots faultless stepped = absurd stepped
 stepped_next records state who (Some operation) reply s area end slots faultless stepped = record {
-  after = (plain_step run_constants state who operation).state;
-  follows = inl (λ i. record { state = (plain_step run_constants state who operation).state; reply = stepped.reply_is i });
+  after = (step_behind run_constants records state who operation).state;
+  follows = inl (λ i. record { state = (step_behind run_constants records state who operation).state; reply = stepped.reply_is i });
   faultless = subst IsFaultless (sym stepped.reply_is) faultless;
-  stands = subst (λ (r : Reply). StandsFor s area end slots first_masters (grown records operation r) (plain_step run_constants state who operation).state) (sym stepped.reply_is) stepped.stands;
+  stands = subst (λ (r : Reply). StandsFor s area end slots first_masters (grown records operation r) (step_behind run_constants records state who operation).state) (sym stepped.reply_is) stepped.stands;
 }
 
 -- what a call of a store without a set leaves of the sets, and of the records

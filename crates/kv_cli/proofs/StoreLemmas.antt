@@ -11,7 +11,7 @@ use Rattle.flash_core.specs.Calls.{OnlyReads}
 use Rattle.flash_core.specs.Images.{IsErased}
 use Rattle.flash_core.specs.Sizes.{IsValid, size_of}
 use Rattle.flash_core.specs.State.{FlashState}
-use Rattle.base_core.specs.Units.{IsMultipleOf}
+use Rattle.flash_core.specs.Up.{IsMultipleOf}
 use Rattle.kv_model.specs.Flags.{is_write_once, remove_flags}
 use Rattle.base_core.specs.Sizes.{record_size}
 use Rattle.kv_model.specs.declared.error.KvError.TheVariants.{WriteProtected, MediaFull}
@@ -19,19 +19,21 @@ use Rattle.kv_model.specs.Write.{Write}
 use Rattle.kv_model.specs.Operations.{Operation}
 use Rattle.kv_model.specs.Constants.{Constants}
 use Rattle.kv_model.specs.Rules.{Outcome}
-use Rattle.kv_model.specs.PlainStep.{plain_step}
+use Rattle.kv_model.specs.PlainStep.{flags_in}
 use Rattle.kv_model.specs.StoreState.{StoreState}
 use Rattle.kv_model.specs.Keys.{is_key, is_prefix}
 use Rattle.record_core.specs.Header.{IsHeader}
 use Rattle.area_log.specs.declared.area.Area.{Area}
-use Rattle.area_log.specs.Areas.{end_of, first_place, IsAreaOf}
+use Rattle.area_log.specs.Areas.{end_of, IsAreaOf}
 use Rattle.ram_table.specs.declared.table.Entry.{Entry}
 use Rattle.ram_table.specs.declared.table.Place.{Place}
 use Rattle.ram_table.specs.Find.{IsPlaceOf}
 use Rattle.ram_table.specs.Table.{TableState}
 use Rattle.tdb_mount.specs.Keys.{keys_in}
+use Rattle.kv_model.specs.declared.limits.TheConstants.{MAX_VALUE}
+use Rattle.kv_cli.specs.EarlyStore.{spent_by}
 use Rattle.kv_cli.specs.Writing.{image_of, IsTold}
-use Rattle.kv_cli.specs.LogStore.{Masters, IfAnswered, IsLogOf, IsOver, IsPlaced, IsReady, StandsFor, HasStepped, RoomCheck, flags_in, grown, hash_bits}
+use Rattle.kv_cli.specs.LogStore.{Masters, IfAnswered, IsLogOf, IsOver, IsPlaced, IsReady, StandsFor, HasStepped, RoomCheck, grown, hash_bits, step_behind}
 
 module _ {old new : FlashState} (reads : OnlyReads old new) where
   pub same_image : image_of new ≡ image_of old
@@ -74,7 +76,6 @@ module _ {old new : FlashState} (reads : OnlyReads old new) where
     StandsFor-read {masters} {records} {state} stands = record {
       log = moved (λ g image. IsLogOf g image area end entries masters records) stands.log;
       map_is = stands.map_is;
-      spent = stands.spent ∙ ap (λ (g : Geometry). first_place g area + state.spent) (sym reads.geometry);
       running = stands.running;
       no_set = stands.no_set;
     }
@@ -97,7 +98,7 @@ module _ {old new : FlashState} (reads : OnlyReads old new) where
 
 -- a call that is known as a step, and what the image stands for by it
 pub stepped : {s : FlashState} {area : Area} {end : ℕ} {entries : List Entry} (constants : Constants) (masters : Masters) (records : List Write) (state : StoreState) (who : ℕ) (operation : Operation) (reply : Reply) (outcome : Outcome)
-    → plain_step constants state who operation ≡ outcome → reply ≡ outcome.reply → StandsFor s area end entries masters (grown records operation outcome.reply) outcome.state
+    → step_behind constants records state who operation ≡ outcome → reply ≡ outcome.reply → StandsFor s area end entries masters (grown records operation outcome.reply) outcome.state
     → HasStepped constants masters records state who operation reply s area end entries
 stepped {s} {area} {end} {entries} constants masters records state who operation reply outcome step replies stands = record {
   reply_is = replies ∙ sym (ap (λ (o : Outcome). o.reply) step);
@@ -110,7 +111,7 @@ unfolding is_key is_prefix
 key_sizes bytes valid = search rules
 
 -- a header of a value that a plain store takes
-pub plain_header : (flags key_size value_size : ℕ) → flags < 2 → 1 ≤ key_size → key_size ≤ 128 → value_size ≤ 65592 → IsHeader flags key_size value_size
+pub plain_header : (flags key_size value_size : ℕ) → flags < 2 → 1 ≤ key_size → key_size ≤ 128 → value_size ≤ MAX_VALUE → IsHeader flags key_size value_size
 plain_header flags key_size value_size plain least most value_most = record {
   kind = elim (cases_eq flags 0) [ inl is ↦ inl is | inr other ↦ inr (inl (omega arith)) ];
   key_least = least;
@@ -139,26 +140,26 @@ remove_header key_size least most = record {
 }
 
 -- what a check of the room finds
-module _ (constants : Constants) (state : StoreState) (key : List ℕ) (size : ℕ) where
+module _ (constants : Constants) (records : List Write) (state : StoreState) (key : List ℕ) (size : ℕ) where
   abbrev written : ℕ
-  written = state.spent + record_size constants.prog (length key) size
+  written = spent_by constants.prog records + record_size constants.prog (length key) size
 
   abbrev check : Bool → Bool → Result Unit KvError
   check protected full = if protected then Err WriteProtected else if full then Err (MediaFull written constants.room) else Ok tt
 
   abbrev protects : Bool
-  protects = is_write_once (flags_in state key)
+  protects = is_write_once (flags_in state.primary key)
 
-  pub check_protected : protects ≡ true → RoomCheck constants state key size (Err WriteProtected)
+  pub check_protected : protects ≡ true → RoomCheck constants records state key size (Err WriteProtected)
   check_protected protected = λ i. check (sym protected i) (nat_lt constants.room written)
 
   module _ (free : protects ≡ false) (need room : ℕ) (need_is : need ≡ written) (room_is : room ≡ constants.room) where
-    pub check_full : room < need → RoomCheck constants state key size (Err (MediaFull need room))
+    pub check_full : room < need → RoomCheck constants records state key size (Err (MediaFull need room))
     check_full less =
         let full : nat_lt constants.room written ≡ true = grind (arith, nat_tests) in
         ap (λ (n : ℕ). refused_as (MediaFull n room)) need_is ∙ ap (λ (r : ℕ). refused_as (MediaFull written r)) room_is ∙ (λ i. check (sym free i) (sym full i))
 
-    pub check_fits : need ≤ room → RoomCheck constants state key size (Ok tt)
+    pub check_fits : need ≤ room → RoomCheck constants records state key size (Ok tt)
     check_fits fits =
         let fine : nat_lt constants.room written ≡ false = grind (arith, nat_tests) in
         λ i. check (sym free i) (sym fine i)

@@ -1,5 +1,5 @@
 -- What the table of a log says of a key.
-use Rattle.std.proofs.Common.{◌≡◌, ℕ, ◌+◌, ◌-◌, ◌<◌, ◌≤◌, Bool, true, false, List, length, ⊎_elim, refl, sym, ◌∙◌, ap, subst, arith}
+use Rattle.std.proofs.Common.{◌≡◌, ℕ, ◌+◌, ◌-◌, ◌<◌, ◌≤◌, Bool, true, false, List, [], ◌∷◌, length, ⊎_elim, refl, sym, ◌∙◌, ap, subst, arith}
 use Rattle.std.specs.Prelude.{not, IsTrue, Option, Some, None}
 use Rattle.std.specs.FinMap as map
 use mathlib.Core.Bool.{false≢true}
@@ -14,7 +14,7 @@ use Rattle.base_core.specs.Sizes.{master_size, record_size}
 use Rattle.base_core.specs.Units.{up}
 use Rattle.kv_model.specs.StoreState.{StoreState}
 use Rattle.kv_model.specs.Constants.{Constants}
-use Rattle.record_core.specs.Log.{AreAllRecords}
+use Rattle.record_core.specs.Log.{AreAllRecords, AreRecords, extent}
 use Rattle.record_core.specs.Mounts.{ActiveRecords}
 use Rattle.record_core.proofs.LogLemmas.{AreRecords-forward}
 use Rattle.area_log.specs.declared.area.Area.{Area}
@@ -30,6 +30,8 @@ use Rattle.tdb_mount.specs.Index.{HasEntry, IsKept, IsLinked, IsTableOf, PlaceMa
 use Rattle.tdb_mount.specs.Keys.{keys_in}
 use Rattle.tdb_mount.proofs.PlaceLemmas.{record_of_place, records_linked, tells_record}
 use Rattle.tdb_mount.proofs.TableLemmas.{table_with}
+use Rattle.kv_model.specs.declared.limits.TheConstants.{MAX_VALUE}
+use Rattle.kv_cli.specs.EarlyStore.{spent_by}
 use Rattle.kv_cli.specs.Writing.{image_of, IsTold}
 use Rattle.kv_cli.specs.LogStore.{Masters, IsLogOf, IsPlaced, IsOver, IsReady, StandsFor, hash_bits}
 
@@ -61,6 +63,11 @@ placed_with bits keys other entries key place same inside there is = record {
   above = λ missing i le lt. subst (λ (k : List ℕ). IsTrue (is_below bits key k)) (sym (same i lt)) (is.above missing i le lt);
 }
 
+-- records that stand one behind another end behind what they take
+spent_up_to : (prog : ℕ) (image : List ℕ) (place end : ℕ) (records : List Write) → AreRecords prog image place end records → place + spent_by prog records ≡ end
+spent_up_to prog image place end [] each = omega (arith, each)
+spent_up_to prog image place end (r ∷ rs) each = let rest = spent_up_to prog image (place + extent prog r) end rs each.1 in omega (arith, rest)
+
 module _ (g : Geometry) (valid : IsValid g) (image : List ℕ) (area : Area) (end : ℕ) (entries : List Entry) (masters : Masters) (records : List Write)
     (log : IsLogOf g image area end entries masters records) where
   positive : 1 ≤ g.prog
@@ -80,6 +87,10 @@ module _ (g : Geometry) (valid : IsValid g) (image : List ℕ) (area : Area) (en
   pub begins : first_place g area ≤ end
   begins = AreRecords-forward g.prog positive image (first_place g area) end records all_records.each
 
+  -- they stand one behind another up to the end
+  pub log_spent : (constants : Constants) → IsOver g constants → end ≡ first_place g area + spent_by constants.prog records
+  log_spent constants over = sym (spent_up_to g.prog image (first_place g area) end records all_records.each) ∙ ap (λ (prog : ℕ). first_place g area + spent_by prog records) (sym over.prog)
+
   tells : (key : List ℕ) (offset : ℕ) → map.get places key ≡ Some offset → map.get keys offset ≡ Some key
   tells key offset found =
       let kept = record_of_place g.prog positive image end (first_place g area) records all_records.each key offset found in
@@ -97,7 +108,7 @@ module _ (g : Geometry) (valid : IsValid g) (image : List ℕ) (area : Area) (en
   kept_at key (Some place) stored is = (place, is)
 
   -- a value that the records give is that of one of them
-  pub value_most : (key : List ℕ) (stored : Stored) → map.get (map_of records) key ≡ Some stored → length stored.bytes ≤ 65592
+  pub value_most : (key : List ℕ) (stored : Stored) → map.get (map_of records) key ≡ Some stored → length stored.bytes ≤ MAX_VALUE
   value_most key stored is =
       (kept_at key (map.get places key) stored (subst (IsLinked g.prog image end key (map.get places key)) is (linked key))).1.stands.valid_header.value_most
 
@@ -164,17 +175,17 @@ sizes {s} {area} {end} {entries} {work} ready = record {
 }
 
 -- what is taken of an area once a record more was written, and what it has for records
-pub record Sized (constants : Constants) (state : StoreState) (key_size size need room : ℕ) : Type 0 where
-  pub need_is : need ≡ state.spent + record_size constants.prog key_size size
+pub record Sized (constants : Constants) (spent key_size size need room : ℕ) : Type 0 where
+  pub need_is : need ≡ spent + record_size constants.prog key_size size
   pub room_is : room ≡ constants.room
 
 -- by what the store computes
-pub written_in : (s : FlashState) {new : FlashState} {area area_now : Area} {end end_now : ℕ} {entries : List Entry} {work : List ℕ} {geometry : Geometry} {constants : Constants} (state : StoreState)
+pub written_in : (s : FlashState) {new : FlashState} {area area_now : Area} {end end_now : ℕ} {entries : List Entry} {work : List ℕ} {geometry : Geometry} {constants : Constants} (spent : ℕ)
     {header key_room key_size its_size size record_room : ℕ}
     → IsReady new area_now end_now entries work → new.geometry ≡ s.geometry → geometry ≡ new.geometry → header ≡ up geometry.prog 24 → key_room ≡ up geometry.prog 12
-    → record_room ≡ record_size geometry.prog its_size size → its_size ≡ key_size → IsOver s.geometry constants → area_now ≡ area → end_now ≡ end → end ≡ first_place s.geometry area + state.spent
-    → Sized constants state key_size size (end_now - area_now.base - (header + key_room) + record_room) (area_now.size - (header + key_room))
-written_in s {new} {area} {area_now} {end} {end_now} {entries} {work} {geometry} {constants} state {header} {key_room} {key_size} {its_size} {size} {record_room} ready kept same header_is key_room_is record_is size_is over area_is end_is spent =
+    → record_room ≡ record_size geometry.prog its_size size → its_size ≡ key_size → IsOver s.geometry constants → area_now ≡ area → end_now ≡ end → end ≡ first_place s.geometry area + spent
+    → Sized constants spent key_size size (end_now - area_now.base - (header + key_room) + record_room) (area_now.size - (header + key_room))
+written_in s {new} {area} {area_now} {end} {end_now} {entries} {work} {geometry} {constants} spent {header} {key_room} {key_size} {its_size} {size} {record_room} ready kept same header_is key_room_is record_is size_is over area_is end_is at_end =
     let is = sizes ready in
     let prog : geometry.prog ≡ constants.prog = ap (λ (x : Geometry). x.prog) (same ∙ kept) ∙ sym over.prog in
     let first : header ≡ up s.geometry.prog 24 = header_is ∙ ap (λ (x : Geometry). up x.prog 24) (same ∙ kept) in
@@ -182,6 +193,6 @@ written_in s {new} {area} {area_now} {end} {end_now} {entries} {work} {geometry}
     let whole : record_room ≡ record_size constants.prog key_size size = record_is ∙ ap (λ (p : ℕ). record_size p its_size size) prog ∙ ap (λ (n : ℕ). record_size constants.prog n size) size_is in
     let base : area_now.base ≡ area.base = ap (λ (a : Area). a.base) area_is in
     record {
-      need_is = omega (arith, first, second, whole, base, end_is, spent);
+      need_is = omega (arith, first, second, whole, base, end_is, at_end);
       room_is = omega (arith, first, second, is.size, ap area_size kept, over.room);
     }

@@ -1,3 +1,4 @@
+pub mod EarlyStore
 pub mod Images
 pub mod Inputs
 pub mod LogStore

@@ -1,7 +1,6 @@
 -- How the image of a device stands for the map of a store: for each key, its last record.
 use Rattle.std.specs.Prelude.{◌≡◌, ◌≢◌, ℕ, ◌+◌, ◌-◌, ◌<◌, ◌≤◌, List, [], ◌∷◌, ◌++◌, length, true, Option, Some, None, Result, Ok, Err, MatchOption, nat_lt, if◌then◌else◌}
 use Rattle.std.specs.FinMap as map
-use Rattle.std.specs.Option.{option_map_or}
 use Rattle.flash_core.specs.declared.geometry.Geometry.{Geometry}
 use Rattle.flash_core.specs.Images.{IsErased}
 use Rattle.flash_core.specs.Sizes.{area_size}
@@ -12,8 +11,9 @@ use Rattle.base_core.specs.Sizes.{record_size}
 use Rattle.kv_model.specs.Sizes.{room_of}
 use Rattle.kv_model.specs.StoreState.{StoreState}
 use Rattle.kv_model.specs.Constants.{Constants}
-use Rattle.kv_model.specs.PlainStep.{plain_step}
+use Rattle.kv_model.specs.PlainStep.{flags_in}
 use Rattle.kv_model.specs.Operations.{Operation, Set, Remove, operation_of}
+use Rattle.kv_model.specs.Rules.{Outcome}
 use Rattle.kv_model.specs.declared.call.Call.{Call}
 use Rattle.kv_model.specs.declared.call.Reply.{Reply}
 use Rattle.kv_model.specs.declared.call.Reply.TheVariants.{Done, Refused}
@@ -21,7 +21,6 @@ use Rattle.kv_model.specs.declared.error.KvError.{KvError}
 use Rattle.kv_model.specs.declared.error.KvError.TheVariants.{Memory, WriteProtected, MediaFull}
 use Rattle.kv_model.specs.Flags.{is_write_once, remove_flags}
 use Rattle.kv_model.specs.Write.{Write, applied, map_of}
-use Rattle.record_core.specs.Log.{extent}
 use Rattle.record_core.specs.Mounts.{Contents, Holds, active_area}
 use Rattle.area_log.specs.declared.area.Area.{Area}
 use Rattle.area_log.specs.Areas.{end_of, first_place, IsAreaOf}
@@ -32,6 +31,7 @@ use Rattle.ram_table.specs.Find.{IsPlaceOf}
 use Rattle.tdb_mount.specs.Index.{IsTable, places_of}
 use Rattle.tdb_mount.specs.Keys.{keys_in}
 use Rattle.tdb_mount.specs.Room.{AreIn, area_of}
+use Rattle.kv_cli.specs.EarlyStore.{early_step, spent_by}
 use Rattle.kv_cli.specs.Writing.{image_of, IsTold}
 
 -- all bits of a key's CRC are its hash
@@ -69,7 +69,6 @@ pub record IsReady (s : FlashState) (area : Area) (end : ℕ) (entries : List En
 pub record StandsFor (s : FlashState) (area : Area) (end : ℕ) (entries : List Entry) (masters : Masters) (records : List Write) (state : StoreState) : Type 0 where
   pub log : IsLogOf s.geometry (image_of s) area end entries masters records
   pub map_is : state.primary ≡ map_of records
-  pub spent : end ≡ first_place s.geometry area + state.spent
   pub running : state.doubt ≡ None
   pub no_set : state.open_set ≡ None
 
@@ -90,33 +89,23 @@ pub record IsOver (g : Geometry) (constants : Constants) : Type 0 where
   pub prog : constants.prog ≡ g.prog
   pub room : constants.room ≡ room_of g.prog (area_size g)
 
--- the flags under a key, or none
-abbrev pub flags_in : StoreState → List ℕ → ℕ
-flags_in state key = option_map_or (λ (s : Stored). s.flags) (map.get state.primary key) 0
-
 -- the state once a record was written
-abbrev pub after_record : ℕ → StoreState → Write → StoreState
-after_record prog state r = record state { spent = state.spent + extent prog r; primary = applied r state.primary }
+abbrev pub after_record : StoreState → Write → StoreState
+after_record state r = record state { primary = applied r state.primary }
 
 -- the state once a record of this key, flags and value was written
-abbrev pub with_record : ℕ → StoreState → List ℕ → Stored → StoreState
-with_record prog state key stored = record state {
-  spent = state.spent + record_size prog (length key) (length stored.bytes);
-  primary = map.insert state.primary key stored;
-}
+abbrev pub with_record : StoreState → List ℕ → Stored → StoreState
+with_record state key stored = record state { primary = map.insert state.primary key stored }
 
 -- the state once a record was written that takes this key out
-abbrev pub without_record : ℕ → StoreState → List ℕ → StoreState
-without_record prog state key = record state {
-  spent = state.spent + record_size prog (length key) 0;
-  primary = map.remove state.primary key;
-}
+abbrev pub without_record : StoreState → List ℕ → StoreState
+without_record state key = record state { primary = map.remove state.primary key }
 
--- whether a record of a value of this size may be written under a key that the store takes: why not, if not
-abbrev pub RoomCheck : Constants → StoreState → List ℕ → ℕ → Result Unit KvError → Type 0
-RoomCheck constants state key size result =
-    let need = state.spent + record_size constants.prog (length key) size in
-    result ≡ (if is_write_once (flags_in state key) then Err WriteProtected
+-- whether a record of a value of this size may be written behind these under a key that the store takes: why not, if not
+abbrev pub RoomCheck : Constants → List Write → StoreState → List ℕ → ℕ → Result Unit KvError → Type 0
+RoomCheck constants records state key size result =
+    let need = spent_by constants.prog records + record_size constants.prog (length key) size in
+    result ≡ (if is_write_once (flags_in state.primary key) then Err WriteProtected
     else if nat_lt constants.room need then Err (MediaFull need constants.room)
     else Ok tt)
 
@@ -126,11 +115,15 @@ grown records (Set key value flags) Done = records ++ record { flags = flags; ke
 grown records (Remove key) Done = records ++ record { flags = remove_flags; key = key; value = [] } ∷ []
 grown records operation reply = records
 
--- The call was a step of the plain store, and what the image stands for now is the state after it.
+-- the step of a call behind these records
+abbrev pub step_behind : Constants → List Write → StoreState → ℕ → Operation → Outcome
+step_behind constants records = early_step constants (spent_by constants.prog records)
+
+-- The call was a step of the store, and what the image stands for now is the state after it.
 pub record HasStepped (constants : Constants) (masters : Masters) (records : List Write) (state : StoreState) (who : ℕ) (operation : Operation) (reply : Reply)
     (s : FlashState) (area : Area) (end : ℕ) (entries : List Entry) : Type 0 where
-  pub reply_is : reply ≡ (plain_step constants state who operation).reply
-  pub stands : StandsFor s area end entries masters (grown records operation (plain_step constants state who operation).reply) (plain_step constants state who operation).state
+  pub reply_is : reply ≡ (step_behind constants records state who operation).reply
+  pub stands : StandsFor s area end entries masters (grown records operation (step_behind constants records state who operation).reply) (step_behind constants records state who operation).state
 
 -- the same of a call as a client made it, which is no mount
 abbrev pub CallHasStepped : Constants → Masters → List Write → StoreState → ℕ → Call → Reply → FlashState → Area → ℕ → List Entry → Type 0

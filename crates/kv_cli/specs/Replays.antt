@@ -11,14 +11,13 @@ use Rattle.kv_model.specs.declared.call.Reply.TheVariants.{Refused}
 use Rattle.kv_model.specs.declared.error.KvError.TheVariants as error
 use Rattle.kv_model.specs.StoreState.{StoreState, fresh_state}
 use Rattle.kv_model.specs.Constants.{Constants}
-use Rattle.kv_model.specs.History.{IsLegal}
 use Rattle.kv_model.specs.Write.{Write}
 use Rattle.kv_model.specs.Writes.{writes}
-use Rattle.kv_model.specs.PlainStep.{plain_rules}
 use Rattle.record_core.specs.Mounts.{Holds, Mounts}
 use Rattle.script_core.specs.declared.line.Act.{Act}
 use Rattle.script_core.specs.declared.line.Act.TheVariants.{Do, Cut}
 use Rattle.script_core.specs.declared.line.Line.{Line}
+use Rattle.kv_cli.specs.EarlyStore.{IsEarlyLegal}
 use Rattle.kv_cli.specs.Images.{image_size}
 use Rattle.kv_cli.specs.LogStore.{Masters}
 
@@ -27,11 +26,11 @@ run_geometry = record { prog = 8; erase = 4096; units_per_area = 16 }
 
 -- the geometry 8:4096:16 and all 32 bits of a CRC as the hash
 abbrev pub run_constants : Constants
-run_constants = record { hash_bits = 32; prog = 8; room = 65496 }
+run_constants = record { hash_bits = 32; prog = 8; room = 65496; secure = None }
 
 -- running, with an empty map, no set, no iterator and the first vector
 abbrev pub first_state : StoreState
-first_state = fresh_state empty empty 1 0
+first_state = fresh_state empty empty 1
 
 -- the masters that a format leaves
 abbrev pub first_masters : Masters
@@ -66,7 +65,7 @@ HasLogOf image records = (end : ℕ) × Holds run_geometry image (record { first
 -- in order, and mounts to the map that they leave.
 pub record IsReplayOf (lines : List Line) (entries : List Entry) (image : List ℕ) : Type 0 where
   pub last : StoreState
-  pub legal : IsLegal (plain_rules run_constants) first_state entries last
+  pub legal : IsEarlyLegal run_constants first_state entries last
   pub in_order : map called entries ≡ flat_map asked lines
   pub faultless : All (λ (entry : Entry). IsFaultless entry.reply) entries
   pub sized : length image ≡ image_size

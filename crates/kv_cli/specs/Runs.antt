@@ -4,13 +4,13 @@ use Rattle.std.specs.List.{flat_map}
 use Rattle.flash_core.specs.State.{FlashState}
 use Rattle.kv_model.specs.declared.call.Entry.{Entry}
 use Rattle.kv_model.specs.StoreState.{StoreState}
-use Rattle.kv_model.specs.History.{AreNumbered, Runs, Follows}
+use Rattle.kv_model.specs.History.{AreNumbered, Follows}
 use Rattle.kv_model.specs.Write.{Write}
 use Rattle.kv_model.specs.Writes.{set_after, written, writes}
-use Rattle.kv_model.specs.PlainStep.{plain_rules}
 use Rattle.area_log.specs.declared.area.Area.{Area}
 use Rattle.ram_table.specs.declared.table.Entry.{Entry as Slot}
 use Rattle.script_core.specs.declared.line.Line.{Line}
+use Rattle.kv_cli.specs.EarlyStore.{EarlyRuns, early_rules, spent_by}
 use Rattle.kv_cli.specs.LogStore.{StandsFor}
 use Rattle.kv_cli.specs.Replays.{run_constants, first_masters, first_state, called, asked, IsFaultless}
 
@@ -22,7 +22,7 @@ pub record HasGoneOn (records : List Write) (state : StoreState) (line : Line) (
   pub appended : new ≡ old ++ entry ∷ []
   pub numbered : AreNumbered old (entry ∷ [])
   pub asked_for : called entry ∷ [] ≡ asked line
-  pub follows : Follows (plain_rules run_constants) state entry after
+  pub follows : Follows (early_rules run_constants (spent_by run_constants.prog records)) state entry after
   pub faultless : IsFaultless entry.reply
   pub no_set : set_after None entry.who entry.call entry.reply ≡ None
   pub stands : StandsFor s area end slots first_masters (records ++ written None entry.call entry.reply) after
@@ -31,7 +31,7 @@ pub record HasGoneOn (records : List Write) (state : StoreState) (line : Line) (
 pub record HasRun (lines : List Line) (entries : List Entry) (s : FlashState) (area : Area) (end : ℕ) (slots : List Slot) : Type 0 where
   pub last : StoreState
   pub numbered : AreNumbered [] entries
-  pub runs : Runs (plain_rules run_constants) first_state entries last
+  pub runs : EarlyRuns run_constants [] first_state entries last
   pub in_order : map called entries ≡ flat_map asked lines
   pub faultless : All (λ (entry : Entry). IsFaultless entry.reply) entries
   pub no_set : (more : List Entry) → writes None (entries ++ more) ≡ writes None entries ++ writes None more

@@ -5,6 +5,7 @@ ghost use Rattle.flash_core.specs.Calls.{OnlyReads};
 ghost use Rattle.flash_core.specs.Sizes.{size_of};
 ghost use Rattle.kv_model.specs.Crc.{key_hash};
 ghost use Rattle.kv_model.specs.Flags.{remove_flags};
+ghost use Rattle.kv_model.specs.PlainStep.{flags_in};
 ghost use Rattle.kv_model.specs.Write.{Write, map_of};
 ghost use Rattle.kv_model.specs.Keys.{is_key};
 ghost use Rattle.base_core.specs.Sizes.{record_size};
@@ -16,7 +17,7 @@ ghost use Rattle.record_core.specs.Header.{IsHeader};
 ghost use Rattle.record_core.specs.Log.{IsRecordAt};
 ghost use Rattle.record_core.specs.Mounts.{Contents, Holds};
 ghost use Rattle.script_core.specs.declared.line.Act.{Act};
-ghost use Rattle.area_log.specs.Areas.{end_of, first_place};
+ghost use Rattle.area_log.specs.Areas.{end_of};
 ghost use Rattle.area_log.specs.Reading.{Gives, IsWithin};
 ghost use Rattle.ram_table.specs.Table.{entry_at};
 ghost use Rattle.tdb_mount.specs.Format.{Leaves};
@@ -24,7 +25,7 @@ ghost use Rattle.tdb_mount.specs.Index.{changed};
 ghost use Rattle.kv_cli.specs.Inputs.{IsEarlyAct};
 ghost use Rattle.kv_cli.specs.Reading.{IsPartOf};
 ghost use Rattle.kv_cli.specs.Writing.{image_of, IsTold};
-ghost use Rattle.kv_cli.specs.LogStore.{HasDirtyTail, Masters, IfAnswered, flags_in, after_record, IsPlaced, IsReady, StandsFor, IsOver, HasStepped, CallHasStepped, RoomCheck};
+ghost use Rattle.kv_cli.specs.LogStore.{HasDirtyTail, Masters, IfAnswered, after_record, IsPlaced, IsReady, StandsFor, IsOver, HasStepped, CallHasStepped, RoomCheck};
 
 use area_log::Area;
 use flash_core::Flash;
@@ -36,7 +37,7 @@ use std::marker::Brand;
 use std::sync::ledger::Blank;
 use tdb_mount::{area_at, hash_of, mount_parts, place_of};
 
-const MAX_VALUE: usize = 65_592;
+const MAX_VALUE: usize = kv_model::MAX_VALUE as usize;
 
 // All bits of a key's CRC are its hash.
 const HASH_BITS: u8 = 32;
@@ -121,7 +122,7 @@ impl<F: Flash> LogStore<F> {
         ensures leaves { IfOk result (λ store. Leaves {T = Unit {0}} {E = Unit {0}} (F.state flash).geometry (image_of (F.state flash)) (image_of (F.state store.flash)) (Ok tt)) }
         ensures stands { IfOk result (λ store. (vector : ℕ) (contents : Contents) → Holds (F.state flash).geometry (image_of (F.state store.flash)) contents
             → StandsFor (F.state store.flash) store.area store.end store.table.entries (record { first = contents.first; second = contents.second }) contents.records
-            (fresh_state (map_of contents.records) empty vector (store.end - first_place (F.state flash).geometry store.area))) }
+            (fresh_state (map_of contents.records) empty vector)) }
     {
         let parts = match mount_parts(alloc, &mut flash, HASH_BITS) {
             Ok(parts) => parts,
@@ -310,7 +311,7 @@ impl<F: Flash> LogStore<F> {
     fn check_room(&mut self, key: &Key, place: Place, size: u32) -> Result<(), KvError>
         requires ready { IsReady (F.state self.old.flash) self.old.area self.old.end self.old.table.entries self.old.work.items }
         requires placed { IsPlaced (F.state self.old.flash) self.old.area self.old.table.entries key.now place }
-        requires small { size ≤ 65592 }
+        requires small { size ≤ MAX_VALUE }
         ensures ready { IsReady (F.state self.new.flash) self.new.area self.new.end self.new.table.entries self.new.work.items }
         ensures reads { OnlyReads (F.state self.old.flash) (F.state self.new.flash) }
         ensures area { self.new.area ≡ self.old.area }
@@ -319,7 +320,7 @@ impl<F: Flash> LogStore<F> {
         ensures placed { IsPlaced (F.state self.new.flash) self.new.area self.new.table.entries key.now place }
         ensures fits { OnOk result (self.old.end + record_size (F.state self.old.flash).geometry.prog (length key.now) size ≤ end_of self.old.area) }
         ensures cause { (constants : Constants) (masters : Masters) (records : List Write) (state : StoreState) → IsOver (F.state self.old.flash).geometry constants
-            → StandsFor (F.state self.old.flash) self.old.area self.old.end self.old.table.entries masters records state → RoomCheck constants state key.now size result }
+            → StandsFor (F.state self.old.flash) self.old.area self.old.end self.old.table.entries masters records state → RoomCheck constants records state key.now size result }
     {
         let flags = self.flags_at(place)?;
         let is_protected = flags % 2 == 1;
@@ -347,7 +348,7 @@ impl<F: Flash> LogStore<F> {
         ensures end { self.new.end ≡ self.old.end }
         ensures table { self.new.table ≡ self.old.table }
         ensures flags { (masters : Masters) (records : List Write) (state : StoreState) (key : List ℕ) → StandsFor (F.state self.old.flash) self.old.area self.old.end self.old.table.entries masters records state
-            → IsPlaced (F.state self.old.flash) self.old.area self.old.table.entries key place → result ≡ Ok (flags_in state key) }
+            → IsPlaced (F.state self.old.flash) self.old.area self.old.table.entries key place → result ≡ Ok (flags_in state.primary key) }
     {
         if !place.found {
             return Ok(0);
@@ -375,7 +376,7 @@ impl<F: Flash> LogStore<F> {
         ensures only { IfErr result (λ error. (error ≡ Memory) × (flags ≢ remove_flags)) }
         ensures stands { (masters : Masters) (records : List Write) (state : StoreState) → StandsFor (F.state self.old.flash) self.old.area self.old.end self.old.table.entries masters records state
             → OnOk result (StandsFor (F.state self.new.flash) self.new.area self.new.end self.new.table.entries masters (records ++ record { flags = flags; key = key.now; value = value.now } ∷ [])
-            (after_record (F.state self.old.flash).geometry.prog state (record { flags = flags; key = key.now; value = value.now }))) }
+            (after_record state (record { flags = flags; key = key.now; value = value.now }))) }
     {
         let is_remove = flags == REMOVED;
         reserve_for(&mut self.table, place, is_remove)?;

@@ -3,14 +3,20 @@
 #![tactic(auto)]
 
 mod count;
+#[cfg(test)]
+mod fake_tests;
+#[cfg(test)]
+mod file_tests;
 mod interface;
 pub mod laws;
 mod memory;
 mod place;
+mod replace;
 mod system;
 mod table;
 #[cfg(test)]
 mod tests;
+mod whole;
 
 pub use interface::{Host, HostFault};
 pub use memory::MemHost;

@@ -1,18 +1,20 @@
 //! Real files and standard output: the trusted edge.
-ghost use Rattle.std.specs.Prelude.{◌≡◌, ℕ, ◌≤◌, ◌<◌, [], Option, None, IfErr, OnOk, OnErr, vec_len};
-ghost use Rattle.kv_host.specs.Contents.{HostContents, counted_up};
-ghost use Rattle.kv_host.specs.Refusal.{IsPast};
+ghost use Rattle.std.specs.Prelude.{◌≡◌, ℕ, ◌≤◌, ◌<◌, Option, None, Ok};
+ghost use Rattle.kv_host.specs.Contents.{HostContents};
+ghost use Rattle.kv_host.specs.Refusal.{faults_after};
 
 use crate::count::counted_up;
 use crate::interface::{Host, HostFault};
-use std::fs;
-use std::io::{self, ErrorKind, Read, Write};
+use crate::replace::replace;
+use crate::whole::{opened, read_up_to, write_whole};
 use std::marker::Model;
 use std::rt::Files;
+use std::{fs, io};
 
 /// Real files, named by their paths as they stand, and standard output.
 ///
-/// It keeps a count of faults, which contracts see as its value, and tells nothing of bytes.
+/// It keeps a count of faults, which contracts see as its value, and tells nothing of bytes. A file
+/// is replaced by a rename: at each moment its name stands for the old bytes or the new ones.
 pub struct StdHost<'a, R> {
     rt: &'a R,
     faults: u64,
@@ -33,6 +35,18 @@ impl<'a, R> StdHost<'a, R> {
     {
         StdHost { rt, faults: 0 }
     }
+
+    /// Hands an answer on, and counts it where it is a refusal for another cause than want of memory.
+    fn counted(&mut self, answer: Result<(), HostFault>) -> Result<(), HostFault>
+        ensures answer { result ≡ answer }
+        ensures counted { self.new ≡ faults_after answer self.old }
+    {
+        match answer {
+            Ok(()) | Err(HostFault::Memory) => {}
+            Err(_) => self.faults = counted_up(self.faults),
+        }
+        answer
+    }
 }
 
 impl<R> Drop for StdHost<'_, R> {
@@ -49,54 +63,21 @@ impl<R: Files + Print> Host for StdHost<'_, R> {
     ghost is_calm = { λ _ _ _. ⊥ };
 
     fn read_file(&mut self, name: &str, limit: u32, out: &mut Vec<u8>) -> Result<(), HostFault> {
-        let answer = read_within(self.rt, name, limit, out);
-        if let Err(refusal) = answer {
-            out.clear();
-            if refusal != HostFault::Memory {
-                self.faults = counted_up(self.faults);
-            }
-        }
-        answer
+        out.clear();
+        let answer = match opened(fs::open(self.rt, name)) {
+            Ok(file) => read_up_to(file, limit, out),
+            Err(refusal) => Err(refusal),
+        };
+        self.counted(answer)
     }
 
     fn write_file(&mut self, name: &str, bytes: &[u8]) -> Result<(), HostFault> {
-        match fs::write(self.rt, name, bytes) {
-            Ok(()) => Ok(()),
-            Err(_) => {
-                self.faults = counted_up(self.faults);
-                Err(HostFault::Fault)
-            }
-        }
+        let answer = replace(self.rt, name, bytes);
+        self.counted(answer)
     }
 
     fn print(&mut self, bytes: &[u8]) -> Result<(), HostFault> {
-        match io::writer(self.rt).write_all(bytes) {
-            Ok(()) => Ok(()),
-            Err(_) => {
-                self.faults = counted_up(self.faults);
-                Err(HostFault::Fault)
-            }
-        }
-    }
-}
-
-/// Reads a file of at most `limit` bytes into `out`. Of a longer one it reads one byte more.
-fn read_within<R: Files>(rt: &R, name: &str, limit: u32, out: &mut Vec<u8>) -> Result<(), HostFault>
-    ensures within { OnOk result (vec_len out.new ≤ limit) }
-    ensures past { IfErr result (IsPast limit) }
-{
-    out.clear();
-    let file = match fs::open(rt, name) {
-        Ok(file) => file,
-        Err(error) if error.kind() == ErrorKind::NotFound => return Err(HostFault::Absent),
-        Err(_) => return Err(HostFault::Fault),
-    };
-    match file.take(u64::from(limit) + 1).read_to_end(out) {
-        Ok(_) if out.len() <= limit as usize => Ok(()),
-        Ok(_) => Err(HostFault::TooLong {
-            length: out.len() as u64,
-        }),
-        Err(error) if error.kind() == ErrorKind::OutOfMemory => Err(HostFault::Memory),
-        Err(_) => Err(HostFault::Fault),
+        let answer = write_whole(&mut io::writer(self.rt), bytes);
+        self.counted(answer)
     }
 }

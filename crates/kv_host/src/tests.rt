@@ -1,7 +1,6 @@
-use crate::{Host, HostFault, MemHost, StdHost};
+use crate::{Host, HostFault, MemHost};
 use std::alloc::Global;
 use std::test::Fail;
-use std::{env, fs, process};
 
 /// A name of 64 bytes, and one of 65.
 const LONGEST: &str = "0123456789abcdef0123456789abcdef0123456789abcdef0123456789abcdef";
@@ -110,48 +109,5 @@ fn room_and_places_run_out(rt: HostRuntime) -> Result<(), Fail> {
     assert_eq!(rt; host.print(b""), Ok(()));
     assert_eq!(rt; host.file("a").unwrap_or(b""), b"23".as_slice());
     assert_eq!(rt; host.file(LONGEST).unwrap_or(b""), b"1".as_slice());
-    Ok(())
-}
-
-#[test]
-fn real_files_are_written_and_read(rt: HostRuntime) -> Result<(), Fail> {
-    let alloc = rt.alloc();
-    let folder = env::temp_dir(&rt)?;
-    let file = format!(in alloc; "kv_host_{}", process::id(rt.process()))?;
-    let path = folder.join(alloc, file.as_str())?;
-    let name = path.as_str();
-    let mut host = StdHost::new(&rt);
-    let mut out = Vec::new(alloc);
-    assert_eq!(rt; host.write_file(name, b"longer than"), Ok(()));
-    assert_eq!(rt; host.write_file(name, b"hello"), Ok(()));
-    let reads = [
-        Read {
-            name,
-            limit: 5,
-            refusal: None,
-            bytes: b"hello",
-        },
-        Read {
-            name,
-            limit: 4,
-            refusal: Some(HostFault::TooLong { length: 5 }),
-            bytes: b"",
-        },
-        Read {
-            name: "",
-            limit: 4,
-            refusal: Some(HostFault::Absent),
-            bytes: b"",
-        },
-    ];
-    for read in &reads {
-        assert!(rt;
-            answers(&mut host, read, &mut out),
-            "read up to {}",
-            read.limit
-        );
-    }
-    assert_eq!(rt; host.print(b"printed\n"), Ok(()));
-    fs::remove_file(&rt, name)?;
     Ok(())
 }

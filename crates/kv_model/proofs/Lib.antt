@@ -1,3 +1,4 @@
+pub mod CheckLemmas
 pub mod CrcLemmas
 pub mod HistoryLemmas
 pub mod IterationLemmas
@@ -6,7 +7,10 @@ pub mod LimitLemmas
 pub mod MapLemmas
 pub mod NextKeyLemmas
 pub mod OrderLemmas
+pub mod OrderOfLinesLemmas
+pub mod PerformLemmas
 pub mod ReplyLemmas
 pub mod RoomLemmas
+pub mod RulesLemmas
 pub mod UsedLemmas
 pub mod WritesLemmas

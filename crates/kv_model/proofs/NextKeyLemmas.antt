@@ -11,7 +11,7 @@ use Rattle.std.proofs.lemmas.Slice.Eq.{starts_is}
 use Rattle.kv_model.specs.FlaggedMap.{FlaggedMap}
 use Rattle.kv_model.specs.KeyOrder.{key_order, is_below}
 use Rattle.kv_model.specs.StoreState.{Position}
-use Rattle.kv_model.specs.NextKey.{lesser_key, least_key, is_above_last, next_key, IsAhead, IsNext}
+use Rattle.kv_model.specs.NextKey.{lesser_key, least_key, is_above_last, may_give, next_key, IsAhead, IsNext}
 use Rattle.kv_model.proofs.OrderLemmas.{key_order_total}
 
 pub bytes_same : IsAntisymmetric (slice_cmp nat_cmp)
@@ -152,13 +152,10 @@ module _ (hash_bits : ℕ) where
   is_above (Some l) key h = h
 
   module _ (m : FlaggedMap) (position : Position) where
-    abbrev may_be : List ℕ → Bool
-    may_be key = starts_with nat_eq key position.prefix && is_above_last hash_bits position.last key
-
     -- the keys that the definition looks through are those ahead
-    ahead_from : (key : List ℕ) → Has key (filter may_be (keys m)) → IsAhead hash_bits m position key
+    ahead_from : (key : List ℕ) → Has key (filter (may_give hash_bits position) (keys m)) → IsAhead hash_bits m position key
     ahead_from key has =
-        let found = from_filter may_be key (keys m) has in
+        let found = from_filter (may_give hash_bits position) key (keys m) has in
         let prefixed = (starts_is Decides-eqb key position.prefix (starts_with nat_eq key position.prefix) refl).0 (first_so _ _ found.1) in
         record {
           present = contains_key-keys m key ∙ to_any key (keys m) found.0;
@@ -166,17 +163,17 @@ module _ (hash_bits : ℕ) where
           above = above_is position.last key (second_so _ _ found.1);
         }
 
-    from_ahead : (key : List ℕ) → IsAhead hash_bits m position key → Has key (filter may_be (keys m))
+    from_ahead : (key : List ℕ) → IsAhead hash_bits m position key → Has key (filter (may_give hash_bits position) (keys m))
     from_ahead key ahead =
         let starts = (starts_is Decides-eqb key position.prefix (starts_with nat_eq key position.prefix) refl).1 ahead.prefixed.0 ahead.prefixed.1 in
-        in_filter may_be key (keys m) (and_true _ _ starts (is_above position.last key ahead.above)) (from_any key (keys m) (sym (contains_key-keys m key) ∙ ahead.present))
+        in_filter (may_give hash_bits position) key (keys m) (and_true _ _ starts (is_above position.last key ahead.above)) (from_any key (keys m) (sym (contains_key-keys m key) ∙ ahead.present))
 
-    next_from : (found : Option (List ℕ)) → IsLeast (filter may_be (keys m)) found → IsNext hash_bits m position found
+    next_from : (found : Option (List ℕ)) → IsLeast (filter (may_give hash_bits position) (keys m)) found → IsNext hash_bits m position found
     next_from None none = λ key ahead. none key (from_ahead key ahead)
     next_from (Some key) least = (ahead_from key least.0, λ other ahead. least.1 other (from_ahead other ahead))
 
     pub next_key_is_next : IsNext hash_bits m position (next_key hash_bits m position)
-    next_key_is_next = next_from (next_key hash_bits m position) (least_key_is (filter may_be (keys m)))
+    next_key_is_next = next_from (next_key hash_bits m position) (least_key_is (filter (may_give hash_bits position) (keys m)))
 
     two_least : (a b : List ℕ) → (a ≡ b) ⊎ (is_below hash_bits b a ≡ true) → (b ≡ a) ⊎ (is_below hash_bits a b ≡ true) → a ≡ b
     two_least a b (inl is) second = is

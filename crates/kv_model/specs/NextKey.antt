@@ -20,10 +20,13 @@ abbrev pub is_above_last : ℕ → Option (List ℕ) → List ℕ → Bool
 is_above_last hash_bits None key = true
 is_above_last hash_bits (Some last) key = is_below hash_bits last key
 
--- the least key of the map that has the prefix and stands above the last one given
+-- whether a key has the prefix and stands above the last one given
+abbrev pub may_give : ℕ → Position → List ℕ → Bool
+may_give hash_bits position key = starts_with nat_eq key position.prefix && is_above_last hash_bits position.last key
+
+-- the least such key of the map
 abbrev pub next_key : ℕ → FlaggedMap → Position → Option (List ℕ)
-next_key hash_bits map position =
-    least_key hash_bits (filter (λ key. starts_with nat_eq key position.prefix && is_above_last hash_bits position.last key) (keys map))
+next_key hash_bits map position = least_key hash_bits (filter (may_give hash_bits position) (keys map))
 
 abbrev pub HasPrefix : List ℕ → List ℕ → Type 0
 HasPrefix prefix key = (rest : List ℕ) × (key ≡ prefix ++ rest)

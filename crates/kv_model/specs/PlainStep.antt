@@ -13,7 +13,7 @@ use Rattle.kv_model.specs.Constants.{Constants}
 use Rattle.kv_model.specs.StoreState.{Maps, StoreState, OpenSet, begun_set}
 use Rattle.kv_model.specs.Operations.{Operation, Get, Part, Info, Set, Remove, RemoveStart, Start, Add, Finish, Abort, OpenIterator, Next, CloseIterator, Reset}
 use Rattle.kv_model.specs.Checks.{Check, Refuses, Reads, Writes}
-use Rattle.kv_model.specs.Rules.{Outcome, Rules, is_refusal, step}
+use Rattle.kv_model.specs.Rules.{Outcome, Rules, step}
 use Rattle.kv_model.specs.Rows.{shared_checks, shared_effect, bad_key, own_set, other_set, answers, becomes, opened, advanced, position_of}
 use Rattle.kv_model.specs.NextKey.{next_key}
 
@@ -83,32 +83,11 @@ module _ (constants : Constants) (state : StoreState) (who : ℕ) where
   abbrev pub plain_effect : Operation → Outcome
   plain_effect = shared_effect state who constants.hash_bits finished own_effect
 
-  advanced_grants : (n : ℕ) (found : Option (List ℕ)) → is_refusal (advanced state who n found).reply ≡ false
-  advanced_grants n None = refl
-  advanced_grants n (Some key) = refl
-
-  pub plain_grants : (operation : Operation) → is_refusal (plain_effect operation).reply ≡ false
-  plain_grants (Get key) = refl
-  plain_grants (Part key offset count) = refl
-  plain_grants (Info key) = refl
-  plain_grants (Set key value flags) = refl
-  plain_grants (Remove key) = refl
-  plain_grants (RemoveStart key) = refl
-  plain_grants (Start key size flags) = refl
-  plain_grants (Add value) = refl
-  plain_grants Finish = refl
-  plain_grants Abort = refl
-  plain_grants (OpenIterator n prefix) = refl
-  plain_grants (Next n) = advanced_grants n (next_key constants.hash_bits state.primary (position_of state who n))
-  plain_grants (CloseIterator n) = refl
-  plain_grants Reset = refl
-
 -- a plain store takes no number and heals nothing
 abbrev pub plain_rules : Constants → Rules
 plain_rules constants = record {
   checks = plain_checks constants;
   effect = plain_effect constants;
-  grants = plain_grants constants;
   takes_number = λ operation. false;
   heal = λ maps. maps;
 }

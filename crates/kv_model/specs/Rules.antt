@@ -1,15 +1,16 @@
 -- What a store brings of its own, and what follows from that for every store: the step of a call, the state in which a
 -- failed write leaves it, the maps to which a power cut may lead, and the mount.
-use Rattle.std.specs.Prelude.{◌≡◌, ◌⊎◌, ℕ, Bool, true, false, ◌+◌, ◌-◌, if◌then◌else◌, IsTrue, List, [], ◌∷◌, Option, Some, None, is_some, MatchOption, Contains}
+use Rattle.std.specs.Prelude.{◌≡◌, ◌⊎◌, ℕ, Bool, true, false, ◌+◌, ◌-◌, if◌then◌else◌, IsTrue, nat_lt, List, [], ◌∷◌, ◌++◌, length, take, drop, Option, Some, None, is_some, MatchOption, Contains}
 use Rattle.std.specs.Option.{option_map_or}
 use Rattle.std.specs.FinMap as map
 use Rattle.kv_model.specs.declared.error.KvError.{KvError}
 use Rattle.kv_model.specs.declared.error.KvError.TheVariants.{ReadFault, WriteFault, InvalidSize, Stopped}
 use Rattle.kv_model.specs.declared.call.Reply.{Reply}
-use Rattle.kv_model.specs.declared.call.Reply.TheVariants.{Refused}
+use Rattle.kv_model.specs.declared.call.Reply.TheVariants.{Value, Facts, Refused}
+use Rattle.kv_model.specs.FlaggedMap.{Stored}
 use Rattle.kv_model.specs.StoreState.{Maps, StoreState, Doubt, maps_of}
-use Rattle.kv_model.specs.Operations.{Operation, Finish}
-use Rattle.kv_model.specs.Checks.{Check, first_refusal, may_fail_reading, may_fail_writing}
+use Rattle.kv_model.specs.Operations.{Operation, Get, Part, Info, Finish}
+use Rattle.kv_model.specs.Checks.{Check, Refuses, first_refusal, may_fail_reading, may_fail_writing}
 
 pub record Outcome : Type 0 where
   pub state : StoreState
@@ -23,13 +24,27 @@ is_refusal reply = false
 pub record Rules : Type 0 where
   -- the refusals of a call in their order
   pub checks : StoreState → ℕ → Operation → List Check
-  -- what the call does where nothing refuses it, which is no refusal
+  -- what the call does where nothing refuses it
   pub effect : StoreState → ℕ → Operation → Outcome
-  pub grants : (state : StoreState) (who : ℕ) (operation : Operation) → is_refusal (effect state who operation).reply ≡ false
   -- whether the call takes a vector number, which sets and starts alone do
   pub takes_number : Operation → Bool
   -- what a mount makes of the maps that it finds
   pub heal : Maps → Maps
+
+-- What the rules of a store have in common: what a call does where nothing refuses it is no refusal, and a get, a part
+-- and an info read one value alike.
+pub record AreRules (rules : Rules) : Type 0 where
+  pub grants : (state : StoreState) (who : ℕ) (operation : Operation) → is_refusal (rules.effect state who operation).reply ≡ false
+  -- the flags and the value that are read for a key that a read finds
+  pub held : StoreState → List ℕ → Stored
+  pub get_checks : (state : StoreState) (who : ℕ) (key : List ℕ) → rules.checks state who (Get key) ≡ rules.checks state who (Info key)
+  pub part_checks : (state : StoreState) (who : ℕ) (key : List ℕ) (offset count : ℕ) → rules.checks state who (Part key offset count)
+      ≡ rules.checks state who (Info key) ++ Refuses (nat_lt (length (held state key).bytes) offset) InvalidSize ∷ []
+  pub get_reply : (state : StoreState) (who : ℕ) (key : List ℕ) → rules.effect state who (Get key) ≡ record { state = state; reply = Value (held state key).bytes }
+  pub part_reply : (state : StoreState) (who : ℕ) (key : List ℕ) (offset count : ℕ)
+      → rules.effect state who (Part key offset count) ≡ record { state = state; reply = Value (take count (drop offset (held state key).bytes)) }
+  pub info_reply : (state : StoreState) (who : ℕ) (key : List ℕ) → rules.effect state who (Info key)
+      ≡ record { state = state; reply = Facts (length (held state key).bytes) (record { bits = (held state key).flags }) }
 
 abbrev pub refuses : StoreState → KvError → Outcome
 refuses state error = record { state = state; reply = Refused error }

@@ -1,8 +1,8 @@
 // What clients ask of a store, what it answers, and the entries of a history.
 use crate::{Bytes, Flags, KvError};
 
-/// One call of a client. Keys and prefixes are as the client wrote them: the store says whether they are of the form
-/// that it wants. Offsets, counts and sizes are in bytes.
+/// One call of a client. Keys and prefixes are as the client wrote them: the store says whether
+/// they are of the form that it wants. Offsets, counts and sizes are in bytes.
 #[derive(Clone, Debug, Drop, PartialEq, Eq)]
 pub enum Call {
     /// The whole value of a key.
@@ -92,7 +92,8 @@ pub struct Entry {
     pub reply: Reply,
 }
 
-/// What a read gave: the stored flags, the size of the whole value, and how many bytes it put into the buffer.
+/// What a read gave: the stored flags, the size of the whole value, and how many bytes it put into
+/// the buffer.
 #[derive(Clone, Copy, Debug, PartialEq, Eq)]
 pub struct Got {
     pub flags: Flags,

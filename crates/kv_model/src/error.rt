@@ -1,7 +1,8 @@
 ghost use Rattle.std.specs.Prelude.{◌≡◌};
 ghost use Rattle.kv_model.specs.Errors.{error_number, error_text};
 
-/// Why a store refused a call. Sizes and CRCs are in bytes and 32 bits; owners are clients' numbers.
+/// Why a store refused a call. Sizes and CRCs are in bytes and 32 bits; owners are clients'
+/// numbers.
 #[derive(Clone, Copy, Debug, PartialEq, Eq)]
 pub enum KvError {
     /// The key is absent.

@@ -38,7 +38,8 @@ pub fn write_once()
         ∷ (1, Set (codes "j") (1 ∷ []) 2)
         ∷ (1, Get (codes "j"))
         ∷ []
-        ) ≡ Done ∷ Refused WriteProtected ∷ Refused WriteProtected ∷ Value (1 ∷ []) ∷ Refused InvalidFlags ∷ Refused NotFound ∷ [] }
+        ) ≡ Done ∷ Refused WriteProtected ∷ Refused WriteProtected ∷ Value (1 ∷ [])
+        ∷ Refused InvalidFlags ∷ Refused NotFound ∷ [] }
 {}
 
 /// A get beside an incremental set gives the old value until the set is finished.
@@ -70,17 +71,23 @@ pub fn refusals_beside_an_open_set()
         ∷ (2, Set (codes "j") (5 ∷ []) 0)
         ∷ (2, Get (codes "j"))
         ∷ []
-        ) ≡ Done ∷ Done ∷ Refused (Busy 1) ∷ Refused SetOpen ∷ Refused NoSet ∷ Refused InvalidSize ∷ Done ∷ Refused InvalidSize
+        ) ≡ Done ∷ Done ∷ Refused (Busy 1) ∷ Refused SetOpen ∷ Refused NoSet
+        ∷ Refused InvalidSize ∷ Done ∷ Refused InvalidSize
         ∷ Value (1 ∷ []) ∷ Done ∷ Value (5 ∷ []) ∷ [] }
 {}
 
-/// An iterator gives the keys of the moment, in the order of their bytes where all hashes are equal: b of b, d and f;
-/// and once d was removed and a and e were set, e, then f, and then no more.
+/// An iterator gives the keys of the moment, in the order of their bytes where all hashes are
+/// equal: b of b, d and f; and once d was removed and a and e were set, e, then f, and then no
+/// more.
 pub fn iterator_beside_changes()
-    ensures first { next_key 0 (map_of_keys (codes "bdf")) (position_behind None) ≡ Some (codes "b") }
-    ensures second { next_key 0 (map_of_keys (codes "abef")) (position_behind (Some (codes "b"))) ≡ Some (codes "e") }
-    ensures third { next_key 0 (map_of_keys (codes "abef")) (position_behind (Some (codes "e"))) ≡ Some (codes "f") }
-    ensures none { next_key 0 (map_of_keys (codes "abef")) (position_behind (Some (codes "f"))) ≡ None }
+    ensures first { next_key 0 (map_of_keys (codes "bdf"))
+        (position_behind None) ≡ Some (codes "b") }
+    ensures second { next_key 0 (map_of_keys (codes "abef"))
+        (position_behind (Some (codes "b"))) ≡ Some (codes "e") }
+    ensures third { next_key 0 (map_of_keys (codes "abef"))
+        (position_behind (Some (codes "e"))) ≡ Some (codes "f") }
+    ensures none { next_key 0 (map_of_keys (codes "abef"))
+        (position_behind (Some (codes "f"))) ≡ None }
 {}
 
 /// Iterators are opened, read and closed by their numbers.

@@ -1,5 +1,5 @@
-// Laws of the definitions, and facts that tie them to values worked out by hand. Each is a function with nothing to do:
-// its contract is the law.
+// Laws of the definitions, and facts that tie them to values worked out by hand. Each is a function
+// with nothing to do: its contract is the law.
 ghost use Rattle.std.specs.Prelude.{◌≡◌, ◌+◌, ◌*◌, ◌%◌, ◌<◌, ◌≤◌, ◌^◌, ◌++◌, [], ◌∷◌, ℕ, List, All, Some, codes};
 ghost use Rattle.std.specs.Cmp.{IsTotalOrder};
 ghost use Rattle.std.specs.FinMap.{empty};
@@ -20,14 +20,17 @@ ghost use Rattle.kv_model.specs.Limits.{HasRoom, IsPlain};
 ghost use Rattle.kv_model.specs.Operations.{Operation};
 ghost use Rattle.kv_model.specs.PlainStep.{plain_rules, plain_step};
 
-/// The CRC is the complement of the usual CRC-32, whose published values these are, and hashes are its low bits.
+/// The CRC is the complement of the usual CRC-32, whose published values these are, and hashes are
+/// its low bits.
 pub fn crc_values()
     ensures digits { crc_of (codes "123456789") ≡ 0x340B_C6D9 }
     ensures a { crc_of (codes "a") ≡ 0x1748_41BC }
     ensures b { crc_of (codes "b") ≡ 0x8E41_1006 }
     ensures c { crc_of (codes "c") ≡ 0xF946_2090 }
-    ensures hashes_of_4_bits { (key_hash 4 (codes "a") ≡ 12) × (key_hash 4 (codes "b") ≡ 6) × (key_hash 4 (codes "c") ≡ 0) }
-    ensures hashes_of_8_bits { (key_hash 8 (codes "a") ≡ 188) × (key_hash 8 (codes "b") ≡ 6) × (key_hash 8 (codes "c") ≡ 144) }
+    ensures hashes_of_4_bits { (key_hash 4 (codes "a") ≡ 12) × (key_hash 4 (codes "b") ≡ 6)
+        × (key_hash 4 (codes "c") ≡ 0) }
+    ensures hashes_of_8_bits { (key_hash 8 (codes "a") ≡ 188) × (key_hash 8 (codes "b") ≡ 6)
+        × (key_hash 8 (codes "c") ≡ 144) }
     ensures hash_of_no_bits { key_hash 0 (codes "a") ≡ 0 }
 {}
 
@@ -65,8 +68,8 @@ pub fn limits_are_kept()
         → IsPlain old → Follows (plain_rules constants) old entry new → IsPlain new }
 {}
 
-/// What a plain store holds, and the set that is active with it, fits in the room, from an empty store on and through
-/// every call, fault and mount.
+/// What a plain store holds, and the set that is active with it, fits in the room, from an empty
+/// store on and through every call, fault and mount.
 pub fn room_is_kept()
     ensures fresh { (constants : Constants) (next_vector : ℕ)
         → HasRoom constants (fresh_state empty empty next_vector) }
@@ -78,10 +81,11 @@ pub fn room_is_kept()
         → HasRoom constants new }
 {}
 
-/// The records of a plain store, with those that a history writes behind them, stand for the map that it leaves, where
-/// nothing is reset or mounted and no write fails.
+/// The records of a plain store, with those that a history writes behind them, stand for the map
+/// that it leaves, where nothing is reset or mounted and no write fails.
 pub fn writes_stand_for_the_map()
-    ensures { (constants : Constants) (old new : StoreState) (records : List Write) (entries : List Entry)
+    ensures { (constants : Constants) (old new : StoreState)
+        (records : List Write) (entries : List Entry)
         → IsPlain old → NoRemoveBegun old → All IsOrdinary entries
         → Runs (plain_rules constants) old entries new → old.primary ≡ map_of records
         → new.primary ≡ map_of (records ++ writes old.open_set entries) }

@@ -1,23 +1,27 @@
-//! The model of a key-value store, and the types that its callers and its layers share: keys, flags, calls, replies,
-//! refusals. The definitions in specs/ say what a store may answer.
+//! The model of a key-value store, and the types that its callers and its layers share: keys,
+//! flags, calls, replies, refusals. The definitions in specs/ say what a store may answer.
 #![tactic(auto)]
 
 mod bytes;
 mod call;
+mod calling;
 mod error;
 mod examples;
 mod flags;
 mod key;
+mod kv;
 mod laws;
 mod limits;
 mod next_examples;
 mod next_laws;
+mod order_laws;
 mod pattern;
 mod size_laws;
 
 pub use base_core::NoMemory;
 pub use bytes::Bytes;
 pub use call::{Call, Entry, Got, Info, Reply};
+pub use calling::perform;
 pub use error::KvError;
 pub use examples::{
     empty_value, full_store, get_beside_an_open_set, iterator_beside_changes, iterators_by_number,
@@ -25,6 +29,7 @@ pub use examples::{
 };
 pub use flags::Flags;
 pub use key::{Key, is_key, is_prefix};
+pub use kv::{Armable, Kv};
 pub use laws::{
     a_stopped_store_refuses, crc_values, history_goes_on, key_order_is_total, limits_are_kept,
     record_sizes, room_is_kept, writes_stand_for_the_map,
@@ -34,6 +39,7 @@ pub use next_examples::{
     hash_bits_order_keys, iteration_in_a_history, iterator_with_equal_hashes, prefix_limits_keys,
 };
 pub use next_laws::{iterators_give_each_key_once, next_key_is_least};
+pub use order_laws::{entries_are_lines, two_clients};
 pub use pattern::Pattern;
 pub use size_laws::{used_counts_each_key, used_of_two_keys};
 

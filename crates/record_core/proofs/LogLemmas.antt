@@ -7,7 +7,7 @@ use Rattle.flash_core.specs.Images.{IsErased, part, put, Torn}
 use Rattle.flash_core.proofs.ImageLaws.{get_or-part, part-put_same, part-Torn}
 use Rattle.kv_model.specs.FlaggedMap.{FlaggedMap}
 use Rattle.kv_model.specs.Flags.{remove_flags}
-use Rattle.kv_model.specs.Write.{Write, applied, map_after, map_of}
+use Rattle.kv_model.specs.Write.{Write, applied}
 use Rattle.std.specs.FinMap as map
 use Rattle.std.specs.Ordering.{nat_cmp, eq_by_cmp}
 use Rattle.std.specs.Cmp.Lexicographic.{slice_cmp, nat_list_cmp_total}
@@ -32,14 +32,6 @@ empty_of_length [] none = refl
 empty_of_length (x ∷ l) none = absurd (omega arith)
 
 -- ---- the map
-
-pub map_after-append : (m : FlaggedMap) (rs ss : List Write) → map_after m (rs ++ ss) ≡ map_after (map_after m rs) ss
-map_after-append m [] ss = refl
-map_after-append m (r ∷ rs) ss = map_after-append (applied r m) rs ss
-
--- a record is applied behind the others
-pub map_of-append : (rs : List Write) (r : Write) → map_of (rs ++ r ∷ []) ≡ applied r (map_of rs)
-map_of-append rs r = map_after-append map.empty rs (r ∷ [])
 
 not_true : (b : Bool) → (b ≡ true → ⊥) → b ≡ false
 not_true true never = absurd (never refl)

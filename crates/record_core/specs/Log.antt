@@ -1,9 +1,6 @@
 -- Records one directly behind another, and the map that they stand for.
-use Rattle.std.specs.Prelude.{◌≡◌, ℕ, ◌+◌, ◌<◌, ◌≤◌, ◌==◌, if◌then◌else◌, List, [], ◌∷◌, length}
-use Rattle.std.specs.FinMap as map
+use Rattle.std.specs.Prelude.{◌≡◌, ℕ, ◌+◌, ◌<◌, ◌≤◌, List, [], ◌∷◌, length}
 use Rattle.flash_core.specs.Images.{part}
-use Rattle.kv_model.specs.FlaggedMap.{FlaggedMap}
-use Rattle.kv_model.specs.Flags.{remove_flags}
 use Rattle.kv_model.specs.Write.{Write}
 use Rattle.base_core.specs.Sizes.{record_size}
 use Rattle.record_core.specs.Record.{IsRecord, record_bytes}

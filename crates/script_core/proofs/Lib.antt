@@ -1,6 +1,7 @@
 pub mod Calls
 pub mod Cuts
-pub mod Digits
+pub mod DecimalDigits
+pub mod HexWords
 pub mod LaterEnds
 pub mod Lines
 pub mod Modes

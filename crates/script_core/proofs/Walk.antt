@@ -8,7 +8,7 @@ use Rattle.script_core.specs.declared.error.ScriptError.TheVariants as faults
 use Rattle.script_core.specs.declared.line.Line.{Line}
 use Rattle.script_core.specs.declared.script.ScriptMode.{ScriptMode}
 use Rattle.script_core.specs.Grammar.{lines_of}
-use Rattle.script_core.specs.Reading.{Outcome, Ends, read_one, read_from, then_read}
+use Rattle.script_core.specs.Reading.{Outcome, Ends, HasReadOne, read_one, read_from, then_read}
 
 pub goes_on : (mode : ScriptMode) (number : ℕ) (lines new : List Line) (text : List ℕ) (left later : List (List ℕ)) (all : Outcome) → left ≡ text ∷ later
     → read_one mode number lines text later ≡ Ok new → read_from mode number lines left ≡ all → read_from mode (number + 1) new later ≡ all
@@ -16,6 +16,12 @@ unfolding read_from
 goes_on mode number lines new text left later all next one so_far =
     let step : read_from mode number lines (text ∷ later) ≡ read_from mode (number + 1) new later = ap (λ (read : Outcome). then_read read (λ more. read_from mode (number + 1) more later)) one in
     sym step ∙ ap (read_from mode number lines) (sym next) ∙ so_far
+
+-- what stops the reading of one line is what reading gives
+pub stopped : (fault : ScriptError) (lines : List Line) (read : Outcome) → HasReadOne (Err fault) lines read → Ends fault read
+stopped (faults.BadLine line) lines read h = h
+stopped (faults.TooManyCalls line) lines read h = h
+stopped faults.Memory lines read h = tt
 
 pub ends_at : (fault : ScriptError) (mode : ScriptMode) (number : ℕ) (lines : List Line) (text : List ℕ) (left later : List (List ℕ)) (all : Outcome) → left ≡ text ∷ later
     → Ends fault (read_one mode number lines text later) → read_from mode number lines left ≡ all → Ends fault all

@@ -22,7 +22,7 @@ use Rattle.hex.proofs.HexLemmas.{decode_of-ok}
 use Rattle.kv_model.specs.declared.flags.Flags.{Flags}
 use Rattle.script_core.specs.Grammar.{is_printing, is_key_word, is_prefix, prefix_word, IsHexWord, IsFlagBits, flags_word}
 use Rattle.script_core.specs.Reading.{has_leading_zero, number_of, number_up_to, count_of, key_of, prefix_of, bytes_of, flags_of}
-use Rattle.script_core.proofs.Digits.{list_all-digits, numerals}
+use Rattle.script_core.proofs.DecimalDigits.{list_all-digits, numerals}
 use Rattle.script_core.proofs.Options.{some_is, chosen, bind_some, both}
 use Rattle.script_core.proofs.Splits.{IsWhole, IsWhole-tested, IsClean, IsClean-tested}
 

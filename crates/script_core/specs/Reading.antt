@@ -1,6 +1,6 @@
 -- Reading a line word by word, and a text line by line. Contracts of private functions cite this; what it means is the
 -- grammar.
-use Rattle.std.specs.Prelude.{◌≡◌, ℕ, ◌+◌, ◌-◌, ◌^◌, ◌≤◌, max, Bool, true, false, not, ◌&&◌, ◌||◌, ◌==◌, nat_lt, nat_le, if◌then◌else◌, List, [], ◌∷◌, ◌++◌, length, take, slice_index, codes, Option, Some, None, Result, Ok, Err}
+use Rattle.std.specs.Prelude.{◌≡◌, ℕ, ◌+◌, ◌-◌, ◌^◌, ◌≤◌, max, Bool, true, false, not, ◌&&◌, ◌||◌, ◌==◌, nat_lt, nat_le, if◌then◌else◌, List, [], ◌∷◌, ◌++◌, length, take, slice_index, codes, Option, Some, None, Result, Ok, Err, IsOk}
 use Rattle.std.specs.List.{list_all, list_any, slice_split, flat_map}
 use Rattle.std.specs.Option.{option_map_or}
 use Rattle.std.specs.Result.{result_ok}
@@ -13,8 +13,7 @@ use Rattle.kv_model.specs.declared.call.Call.TheVariants as call
 use Rattle.kv_model.specs.declared.flags.Flags.{Flags}
 use Rattle.kv_model.specs.declared.pattern.Pattern.{Pattern}
 use Rattle.kv_model.specs.declared.pattern.Pattern.TheVariants as pattern
-use Rattle.script_core.specs.declared.error.ReadError.{ReadError}
-use Rattle.script_core.specs.declared.error.ReadError.TheVariants as errors
+use Rattle.script_core.specs.declared.error.Malformed.{Malformed}
 use Rattle.script_core.specs.declared.error.ScriptError.{ScriptError}
 use Rattle.script_core.specs.declared.error.ScriptError.TheVariants as faults
 use Rattle.script_core.specs.declared.line.Act.{Act}
@@ -23,6 +22,13 @@ use Rattle.script_core.specs.declared.line.Line.{Line}
 use Rattle.script_core.specs.declared.line.Side.{Side}
 use Rattle.script_core.specs.declared.line.Side.TheVariants.{Primary, Rollback}
 use Rattle.script_core.specs.declared.script.ScriptMode.{ScriptMode}
+use Rattle.script_core.specs.declared.digits.Digits.{Digits}
+use Rattle.script_core.specs.HexDigits.{decoded}
+use Rattle.script_core.specs.declared.spelled.SpelledAct.{SpelledAct}
+use Rattle.script_core.specs.declared.spelled.SpelledCall.{SpelledCall}
+use Rattle.script_core.specs.declared.spelled.SpelledLine.{SpelledLine}
+use Rattle.script_core.specs.Spelled.{spelled_call, spelled_act, spelled_line}
+use denote.Ref.{Bor}
 use Rattle.script_core.specs.Grammar.{is_key_word, is_prefix, is_skipped, most_lines, lines_of}
 
 infixl 10 ◌>>=◌
@@ -30,17 +36,29 @@ abbrev pub ◌>>=◌ : {A B : Type 0} → Option A → (A → Option B) → Opti
 None >>= f = None
 (Some x) >>= f = f x
 
--- What a function returned, seen by view, is what reading gives, unless memory ran out.
-abbrev pub Fails : {Y : Type 0} → ReadError → Option Y → Type 0
-Fails errors.Memory read = Unit {0}
-Fails errors.Malformed read = read ≡ None
+-- What a function returned, seen by view, is what reading gives. It takes no memory.
+abbrev pub GivesBy : {X Y : Type 0} → (X → Y) → Result X Malformed → Option Y → Type 0
+GivesBy view (Ok x) read = read ≡ Some (view x)
+GivesBy view (Err e) read = read ≡ None
 
-abbrev pub Gives : {X Y : Type 0} → (X → Y) → Result X ReadError → Option Y → Type 0
-Gives view (Ok x) read = read ≡ Some (view x)
-Gives view (Err e) read = Fails e read
+abbrev pub GivesIt : {X : Type 0} → Result X Malformed → Option X → Type 0
+GivesIt result read = GivesBy (λ x. x) result read
 
-abbrev pub GivesIt : {X : Type 0} → Result X ReadError → Option X → Type 0
-GivesIt result read = Gives (λ x. x) result read
+-- the same of a word of the line, of digits, and of what a call, an act and a line spell
+abbrev pub GivesWord : Result (Bor (List ℕ)) Malformed → Option (List ℕ) → Type 0
+GivesWord result read = GivesBy (λ word. word.now) result read
+
+abbrev pub GivesDigits : Result Digits Malformed → Option (List ℕ) → Type 0
+GivesDigits result read = GivesBy (λ digits. decoded digits.word.now) result read
+
+abbrev pub GivesCall : Result SpelledCall Malformed → Option Call → Type 0
+GivesCall result read = GivesBy spelled_call result read
+
+abbrev pub GivesAct : Result SpelledAct Malformed → Option Act → Type 0
+GivesAct result read = GivesBy spelled_act result read
+
+abbrev pub GivesLine : Result SpelledLine Malformed → Option Line → Type 0
+GivesLine result read = GivesBy spelled_line result read
 
 -- ---- words
 
@@ -347,6 +365,13 @@ Ends (faults.TooManyCalls line) read = read ≡ Err (faults.TooManyCalls line)
 abbrev pub IsOutcome : {X : Type 0} → (X → List Line) → Result X ScriptError → Outcome → Type 0
 IsOutcome view (Ok lines) read = read ≡ Ok (view lines)
 IsOutcome view (Err fault) read = Ends fault read
+
+-- what a function that reads one line returned, and the lines that it left; it wants memory for a good line alone
+abbrev pub HasReadOne : Result (Unit {0}) ScriptError → List Line → Outcome → Type 0
+HasReadOne (Ok done) lines read = read ≡ Ok lines
+HasReadOne (Err (faults.BadLine line)) lines read = read ≡ Err (faults.BadLine line)
+HasReadOne (Err (faults.TooManyCalls line)) lines read = read ≡ Err (faults.TooManyCalls line)
+HasReadOne (Err faults.Memory) lines read = IsOk read
 
 -- the same of a script, which is seen as its lines
 abbrev pub Answers : Result (List Line) ScriptError → Outcome → Type 0

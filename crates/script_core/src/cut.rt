@@ -1,26 +1,27 @@
 // The word for a power cut.
 ghost use Rattle.script_core.specs.Parts.{parts_left};
-ghost use Rattle.script_core.specs.Reading.{GivesIt, side_of, mix_of, plain_pattern_of, lone_pattern_of, pattern_of, cut_of, lone_cut_of};
+ghost use Rattle.script_core.specs.Reading.{GivesIt, GivesAct, side_of, mix_of, plain_pattern_of, lone_pattern_of, pattern_of, cut_of, lone_cut_of};
 
-use crate::error::ReadError;
+use crate::error::Malformed;
 use crate::fields;
-use crate::line::{Act, Side};
+use crate::line::Side;
 use crate::parts::Parts;
+use crate::spelled::SpelledAct;
 use kv_model::Pattern;
 
 #[tactic(auto, unfolding(crate::specs::Reading::side_of))]
-fn side(word: &[u8]) -> Result<Side, ReadError>
+fn side(word: &[u8]) -> Result<Side, Malformed>
     ensures { GivesIt result (side_of word.now) }
 {
     match word {
         b"p" => Ok(Side::Primary),
         b"r" => Ok(Side::Rollback),
-        _ => Err(ReadError::Malformed),
+        _ => Err(Malformed),
     }
 }
 
 #[tactic(auto, unfolding(crate::specs::Reading::mix_of))]
-fn mix(mut parts: Parts) -> Result<Pattern, ReadError>
+fn mix(mut parts: Parts) -> Result<Pattern, Malformed>
     ensures { GivesIt result (mix_of (parts_left parts.entry)) }
 {
     let seed = fields::number(parts.part()?)?;
@@ -29,7 +30,7 @@ fn mix(mut parts: Parts) -> Result<Pattern, ReadError>
 }
 
 #[tactic(auto, unfolding(crate::specs::Reading::plain_pattern_of))]
-fn plain_pattern(name: &[u8]) -> Result<Pattern, ReadError>
+fn plain_pattern(name: &[u8]) -> Result<Pattern, Malformed>
     ensures { GivesIt result (plain_pattern_of name.now) }
 {
     match name {
@@ -37,12 +38,12 @@ fn plain_pattern(name: &[u8]) -> Result<Pattern, ReadError>
         b"half" => Ok(Pattern::Half),
         b"zero" => Ok(Pattern::Zero),
         b"all" => Ok(Pattern::All),
-        _ => Err(ReadError::Malformed),
+        _ => Err(Malformed),
     }
 }
 
 #[tactic(auto, unfolding(crate::specs::Reading::lone_pattern_of))]
-fn lone_pattern(name: &[u8], parts: Parts) -> Result<Pattern, ReadError>
+fn lone_pattern(name: &[u8], parts: Parts) -> Result<Pattern, Malformed>
     ensures { GivesIt result (lone_pattern_of name.now (parts_left parts.entry)) }
 {
     let pattern = plain_pattern(name)?;
@@ -51,7 +52,7 @@ fn lone_pattern(name: &[u8], parts: Parts) -> Result<Pattern, ReadError>
 }
 
 #[tactic(auto, unfolding(crate::specs::Reading::pattern_of))]
-fn pattern(mut parts: Parts) -> Result<Pattern, ReadError>
+fn pattern(mut parts: Parts) -> Result<Pattern, Malformed>
     ensures { GivesIt result (pattern_of (parts_left parts.entry)) }
 {
     let name = parts.part()?;
@@ -63,19 +64,19 @@ fn pattern(mut parts: Parts) -> Result<Pattern, ReadError>
 
 // Side, number and pattern, with one colon between each two.
 #[tactic(auto, unfolding(crate::specs::Reading::cut_of))]
-fn cut(word: &[u8]) -> Result<Act, ReadError>
-    ensures { GivesIt result (cut_of word.now) }
+fn cut<'a>(word: &[u8]) -> Result<SpelledAct<'a>, Malformed>
+    ensures { GivesAct result (cut_of word.now) }
 {
     let mut parts = Parts::new(b':', word);
     let side = side(parts.part()?)?;
     let n = fields::count(parts.part()?)?;
     let pattern = pattern(parts)?;
-    Ok(Act::Cut { side, n, pattern })
+    Ok(SpelledAct::Cut { side, n, pattern })
 }
 
 #[tactic(auto, unfolding(crate::specs::Reading::lone_cut_of))]
-pub(crate) fn lone_cut(mut words: Parts) -> Result<Act, ReadError>
-    ensures { GivesIt result (lone_cut_of (parts_left words.entry)) }
+pub(crate) fn lone_cut<'a>(mut words: Parts<'a>) -> Result<SpelledAct<'a>, Malformed>
+    ensures { GivesAct result (lone_cut_of (parts_left words.entry)) }
 {
     let cut = cut(words.part()?)?;
     words.end()?;

@@ -1,8 +1,3 @@
-ghost use Rattle.std.specs.Prelude.{◌≡◌};
-ghost use Rattle.script_core.specs.declared.error.ReadError.TheVariants as read;
-
-use kv_model::NoMemory;
-use std::alloc::{AllocError, AllocFailed};
 use thiserror::Error;
 
 /// Why a text is no script. Lines are numbered from 1.
@@ -19,33 +14,6 @@ pub enum ScriptError {
     Memory,
 }
 
-// Why one line was not read.
+// A word or a line of another form. What answers this alone takes no memory.
 #[derive(Clone, Copy, Debug, PartialEq, Eq)]
-pub(crate) enum ReadError {
-    Malformed,
-    Memory,
-}
-
-impl From<AllocError> for ReadError {
-    ghost from_gives = { λ _ e. e ≡ read.Memory };
-
-    fn from(_: AllocError) -> Self {
-        ReadError::Memory
-    }
-}
-
-impl<T: Drop> From<AllocFailed<T>> for ReadError {
-    ghost from_gives = { λ _ e. e ≡ read.Memory };
-
-    fn from(_: AllocFailed<T>) -> Self {
-        ReadError::Memory
-    }
-}
-
-impl From<NoMemory> for ReadError {
-    ghost from_gives = { λ _ e. e ≡ read.Memory };
-
-    fn from(_: NoMemory) -> Self {
-        ReadError::Memory
-    }
-}
+pub(crate) struct Malformed;

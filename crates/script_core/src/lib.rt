@@ -2,6 +2,7 @@
 #![tactic(auto)]
 
 mod cut;
+mod digits;
 mod ends;
 mod error;
 mod fields;
@@ -12,6 +13,7 @@ mod parts;
 mod print;
 mod reading;
 mod script;
+mod spelled;
 #[cfg(test)]
 mod tests;
 

@@ -1,15 +1,17 @@
-ghost use Rattle.std.specs.Prelude.{◌≡◌, ◌<◌, ◌+◌, ◌^◌, ◌⊎◌, ℕ, List, length, IfOk, MatchResult};
+ghost use Rattle.std.specs.Prelude.{◌≡◌, ◌<◌, ◌+◌, ◌^◌, ◌⊎◌, ℕ, List, [], ◌∷◌, ◌++◌, length, IfOk, OnOk, OnErr};
 ghost use Rattle.script_core.specs.declared.line.Line.{Line};
 ghost use Rattle.script_core.specs.Grammar.{is_skipped, IsScript, IsFirstBad, IsOneTooMany};
-ghost use Rattle.script_core.specs.Reading.{GivesIt, Ends, IsOutcome, Answers, TellsEnds, is_allowed, good_line_of, read_one, read_text};
+ghost use Rattle.script_core.specs.Spelled.{spelled_act, spelled_line};
+ghost use Rattle.script_core.specs.Reading.{GivesLine, HasReadOne, IsOutcome, Answers, TellsEnds, is_start, cuts_rollback, is_allowed, good_line_of, read_one, read_text};
 
 use crate::ends::last_ends;
-use crate::error::{ReadError, ScriptError};
-use crate::line::{Act, Line, Side};
+use crate::error::{Malformed, ScriptError};
+use crate::line::{Line, Side};
 use crate::parts::Parts;
 use crate::reading;
 use crate::script::{Script, ScriptMode};
-use kv_model::Call;
+use crate::spelled::{SpelledAct, SpelledCall, SpelledLine};
+use kv_model::{Call, NoMemory};
 use std::alloc::Global;
 
 const MOST_LINES: usize = 8192;
@@ -23,45 +25,68 @@ fn is_skipped(line: &[u8]) -> bool
     }
 }
 
-// Whether the mode allows a line, where a later line ends the client's incremental set or none does.
-fn is_allowed(mode: ScriptMode, is_ended: bool, line: &Line) -> bool
-    ensures { result ≡ is_allowed mode is_ended line.now }
+fn is_start(act: &SpelledAct<'_>) -> bool
+    ensures { result ≡ is_start (spelled_act act.now) }
 {
-    let is_start = matches!(
-        line.act,
-        Act::Do {
-            call: Call::Start { .. }
-        }
-    );
-    let cuts_rollback = matches!(
-        line.act,
-        Act::Cut {
-            side: Side::Rollback,
-            ..
-        }
-    );
+    match act {
+        SpelledAct::Do { call } => matches!(
+            call,
+            SpelledCall::Start { .. }
+                | SpelledCall::Whole {
+                    call: Call::Start { .. }
+                }
+        ),
+        SpelledAct::Cut { .. } => false,
+    }
+}
+
+fn cuts_rollback(act: &SpelledAct<'_>) -> bool
+    ensures { result ≡ cuts_rollback (spelled_act act.now) }
+{
+    match act {
+        SpelledAct::Do { .. } => false,
+        SpelledAct::Cut { side, .. } => *side == Side::Rollback,
+    }
+}
+
+// Whether the mode allows a line, where a later line ends the client's incremental set or none does.
+fn is_allowed(mode: ScriptMode, is_ended: bool, line: &SpelledLine<'_>) -> bool
+    ensures { result ≡ is_allowed mode is_ended (spelled_line line.now) }
+{
+    let is_start = is_start(&line.act);
+    let cuts_rollback = cuts_rollback(&line.act);
     (!mode.threads || (line.who >= 1 && (!is_start || is_ended))) && (mode.secure || !cuts_rollback)
 }
 
-// The line of this number, if the mode allows it.
-fn good_line(
-    alloc: Global,
+// The line of this number, if the mode allows it. It takes no memory.
+fn good_line<'a>(
     mode: ScriptMode,
     ends: &[u32; 17],
     number: u32,
-    text: &[u8],
-) -> Result<Line, ReadError>
-    ensures { (later : List (List ℕ)) → TellsEnds ends.now number later → GivesIt result (good_line_of mode later text.now) }
+    text: &'a [u8],
+) -> Result<SpelledLine<'a>, Malformed>
+    ensures { (later : List (List ℕ)) → TellsEnds ends.now number later →
+        GivesLine result (good_line_of mode later text.now) }
 {
-    let line = reading::line(alloc, text)?;
+    let line = reading::line(text)?;
     let is_ended = ends[usize::from(line.who)] > number;
     if !is_allowed(mode, is_ended, &line) {
-        return Err(ReadError::Malformed);
+        return Err(Malformed);
     }
     Ok(line)
 }
 
-// Reads the line of this number behind the lines before it.
+// Adds a copy of a line. It refuses for want of memory alone, and then adds nothing.
+fn add_copy(alloc: Global, lines: &mut Vec<Line>, line: SpelledLine<'_>) -> Result<(), NoMemory>
+    ensures added { OnOk result (lines.new.items ≡ lines.old.items ++ spelled_line line.entry ∷ []) }
+    ensures stands { OnErr result (lines.new.items ≡ lines.old.items) }
+{
+    let line = line.copied(alloc)?;
+    lines.push(line)?;
+    Ok(())
+}
+
+// Reads the line of this number behind the lines before it. Memory is taken for a good line alone.
 fn read_one(
     alloc: Global,
     mode: ScriptMode,
@@ -70,23 +95,22 @@ fn read_one(
     lines: &mut Vec<Line>,
     text: &[u8],
 ) -> Result<(), ScriptError>
-    ensures { (later : List (List ℕ)) → TellsEnds ends.now number later → let read = read_one mode number lines.old.items text.now later in
-        MatchResult result (λ _. read ≡ Ok lines.new.items) (λ fault. Ends fault read) }
+    ensures read { (later : List (List ℕ)) → TellsEnds ends.now number later →
+        HasReadOne result lines.new.items (read_one mode number lines.old.items text.now later) }
+    ensures stands { OnErr result (lines.new.items ≡ lines.old.items) }
 {
     if is_skipped(text) {
         return Ok(());
     }
-    let line = match good_line(alloc, mode, ends, number, text) {
-        Ok(line) => line,
-        Err(ReadError::Malformed) => return Err(ScriptError::BadLine { line: number }),
-        Err(ReadError::Memory) => return Err(ScriptError::Memory),
+    let Ok(line) = good_line(mode, ends, number, text) else {
+        return Err(ScriptError::BadLine { line: number });
     };
     if lines.len() >= MOST_LINES {
         return Err(ScriptError::TooManyCalls { line: number });
     }
-    match lines.push(line) {
+    match add_copy(alloc, lines, line) {
         Ok(()) => Ok(()),
-        Err(_) => Err(ScriptError::Memory),
+        Err(NoMemory) => Err(ScriptError::Memory),
     }
 }
 

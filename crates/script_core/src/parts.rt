@@ -2,7 +2,7 @@ ghost use Rattle.std.specs.Prelude.{◌≡◌, ◌==◌, ◌∷◌};
 ghost use Rattle.std.specs.List.{position, slice_split};
 ghost use Rattle.script_core.specs.SplitRest.{split_rest};
 
-use crate::error::ReadError;
+use crate::error::Malformed;
 
 // Where a byte stands first.
 fn find(byte: u8, bytes: &[u8]) -> Option<usize>
@@ -29,9 +29,8 @@ pub(crate) struct Parts<'a> {
 }
 
 impl<'a> Parts<'a> {
-    ghost use Rattle.std.specs.Prelude.{◌≡◌, ◌≢◌, ◌==◌, [], ◌∷◌, MatchResult, IfErr, Some, None};
+    ghost use Rattle.std.specs.Prelude.{◌≡◌, ◌≢◌, ◌==◌, [], ◌∷◌, MatchResult, Some, None};
     ghost use Rattle.std.specs.List.{slice_split};
-    ghost use Rattle.script_core.specs.declared.error.ReadError.TheVariants.{Malformed};
     ghost use Rattle.script_core.specs.Parts.{parts_left};
     ghost use Rattle.script_core.specs.Reading.{word_at, end_at, GivesIt};
 
@@ -45,21 +44,20 @@ impl<'a> Parts<'a> {
     }
 
     // The next part.
-    pub(crate) fn part(&mut self) -> Result<&'a [u8], ReadError>
+    pub(crate) fn part(&mut self) -> Result<&'a [u8], Malformed>
         ensures { MatchResult result (λ part. word_at (parts_left self.old) ≡ Some (part.now, parts_left self.new))
-            (λ e. (e ≡ Malformed) × (word_at (parts_left self.old) ≡ None)) }
+            (λ _. word_at (parts_left self.old) ≡ None) }
     {
-        self.next().ok_or(ReadError::Malformed)
+        self.next().ok_or(Malformed)
     }
 
     // No part is left.
-    pub(crate) fn end(self) -> Result<(), ReadError>
-        ensures end { GivesIt result (end_at (parts_left self.entry)) }
-        ensures malformed { IfErr result (λ e. e ≡ Malformed) }
+    pub(crate) fn end(self) -> Result<(), Malformed>
+        ensures { GivesIt result (end_at (parts_left self.entry)) }
     {
         match self.rest {
             None => Ok(()),
-            Some(_) => Err(ReadError::Malformed),
+            Some(_) => Err(Malformed),
         }
     }
 }

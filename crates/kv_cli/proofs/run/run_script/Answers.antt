@@ -1,28 +1,20 @@
 use lib.Count
-use Rattle.std.proofs.Common.{◌≡◌, ℕ, ◌-◌, List, [], Some, length, refl, sym, ap, subst, ◌∙◌, arith}
+use Rattle.std.proofs.Common.{◌≡◌, ℕ, List, [], Some, length, refl, sym, ap, subst, ◌∙◌, arith}
 use Rattle.std.specs.Prelude.{unwrap_or}
 use Rattle.flash_core.specs.declared.geometry.Geometry.{Geometry}
 use Rattle.flash_core.specs.Sizes.{IsValid, size_of}
 use Rattle.flash_core.specs.State.{FlashState}
 use Rattle.flash_core.specs.declared.record_flash.RecordFlash.{RecordFlash}
 use Rattle.flash_core.specs.RecordDevice.{IsMemoryOf, memory_state}
-use Rattle.kv_model.specs.FlaggedMap.{FlaggedMap}
 use Rattle.base_core.specs.Units.{up}
-use Rattle.kv_model.specs.StoreState.{fresh_state}
-use Rattle.area_log.specs.Areas.{first_place}
-use Rattle.std.specs.FinMap.{empty}
 use Rattle.kv_cli.specs.Images.{IsErasedImage}
 use Rattle.kv_cli.specs.Writing.{image_of, IsTold}
-use Rattle.kv_cli.specs.LogStore.{IsOver, StandsFor}
+use Rattle.kv_cli.specs.LogStore.{IsOver}
 use Rattle.flash_core.specs.Images.{IsErased}
 use Rattle.kv_cli.proofs.MountedLemmas.{erased_holds, fresh_contents}
 use Rattle.kv_cli.proofs.RunLemmas.{run_all}
-use Rattle.kv_cli.proofs.TableLemmas.{all_records}
-use Rattle.kv_cli.specs.Replays.{first_masters, run_constants, run_geometry}
+use Rattle.kv_cli.specs.Replays.{run_constants, run_geometry}
 use Rattle.kv_cli.proofs.run.run_script.Goals as goal
-
-abbrev no_keys : FlaggedMap
-no_keys = empty
 
 is_valid : IsValid run_geometry
 unfolding lib.Count.ones
@@ -64,7 +56,6 @@ run_lines-requires-clause-over c =
 pub run_lines-requires-clause-stands : goal.run_lines-requires-clause-stands
 run_lines-requires-clause-stands c =
     let flash = c.in-Ok.flash in
-    let store = c.in-Ok-new.store in
     let memory = c.in-Ok.ensures in
     let old = memory_state flash.geometry flash.image.items in
     let told = is_told old _ memory c.requires.erased in
@@ -72,11 +63,7 @@ run_lines-requires-clause-stands c =
     (subst (λ (g : Geometry). IsErased c.args.image.items 0 (size_of g)) (sym memory.geometry_is) c.requires.erased.erased) in
     let holds = erased_holds flash.geometry told.valid (image_of old) told.sized erased _ c.in-Ok-new.ensures.leaves in
     let mounted = c.in-Ok-new.ensures in
-    let s = memory_state store.flash.geometry store.flash.image.items in
-    let stands = mounted.stands 1 (fresh_contents flash.geometry) holds in
-    let at_end = (all_records s.geometry mounted.ready.device.valid (image_of s) store.area store.end store.table.entries first_masters [] stands.log).each in
-    let spent : store.end - first_place flash.geometry store.area ≡ 0 = omega (arith, at_end, ap (λ (x : Geometry). first_place x store.area) mounted.geometry) in
-    subst (λ (n : ℕ). StandsFor s store.area store.end store.table.entries first_masters [] (fresh_state no_keys no_keys 1 n)) spent stands
+    mounted.stands 1 (fresh_contents flash.geometry) holds
 
 pub returns : goal.returns
 returns c =

@@ -4,7 +4,7 @@ use Rattle.script_core.specs.Grammar.{lines_of}
 use Rattle.script_core.specs.Parts.{parts_left}
 use Rattle.script_core.specs.Reading.{read_text}
 use Rattle.script_core.proofs.LaterEnds.{KnowsEnds-next, TellsEnds-known, KnowsEnds-all}
-use Rattle.script_core.proofs.Walk.{goes_on, ends_at, is_done, length-lines_of-le}
+use Rattle.script_core.proofs.Walk.{goes_on, stopped, ends_at, is_done, length-lines_of-le}
 use Rattle.script_core.proofs.parse.read.Goals as goal
 
 pub overflow_add-number : goal.overflow_add-number
@@ -25,7 +25,7 @@ loop-text-preserved c =
     record {
       same = goes_on c.args.mode (c.loop-text.number + 1) c.loop-text.lines.items c.read_one.new.lines.items c.in-Some.text.now (parts_left c.loop-text.text-iterator)
           (parts_left c.next.new.self) (read_text c.args.mode c.args.bytes.now) c.in-Some.ensures.steps
-          (c.in_ok-read_one.ensures (parts_left c.next.new.self) (TellsEnds-known c.last_ends-ends.result (c.loop-text.number + 1) (parts_left c.next.new.self) ends)) c.loop-text.invariant.same;
+          (c.in_ok-read_one.ensures.read (parts_left c.next.new.self) (TellsEnds-known c.last_ends-ends.result (c.loop-text.number + 1) (parts_left c.next.new.self) ends)) c.loop-text.invariant.same;
       count = omega (arith, ap length c.in-Some.ensures.steps, c.loop-text.invariant.count);
       ends = ends;
     }
@@ -36,7 +36,7 @@ returns-in_err-read_one c =
     let ends = KnowsEnds-next c.last_ends-ends.result c.loop-text.number c.in-Some.text.now (parts_left c.loop-text.text-iterator) (parts_left c.next.new.self) c.in-Some.ensures.steps c.loop-text.invariant.ends in
     rw (p.1, p.2) (ends_at c.in_err-read_one.field-0.0 c.args.mode (c.loop-text.number + 1) c.loop-text.lines.items c.in-Some.text.now (parts_left c.loop-text.text-iterator)
     (parts_left c.next.new.self) (read_text c.args.mode c.args.bytes.now) c.in-Some.ensures.steps
-    (c.in_err-read_one.ensures (parts_left c.next.new.self) (TellsEnds-known c.last_ends-ends.result (c.loop-text.number + 1) (parts_left c.next.new.self) ends)) c.loop-text.invariant.same)
+    (stopped c.in_err-read_one.field-0.0 c.read_one.new.lines.items _ (c.in_err-read_one.ensures.read (parts_left c.next.new.self) (TellsEnds-known c.last_ends-ends.result (c.loop-text.number + 1) (parts_left c.next.new.self) ends))) c.loop-text.invariant.same)
 
 pub returns : goal.returns
 returns c = is_done c.args.mode (c.loop-text.number + 1) c.loop-text.lines.items (parts_left c.loop-text.text-iterator) (read_text c.args.mode c.args.bytes.now) c.in-None.ensures.steps.0 c.loop-text.invariant.same

@@ -48,7 +48,7 @@ returns-clause-stands g c masters records state stands =
     let still = still_told device done.writes.kept in
     let is_remove = c.args.flags == remove_flags in
     let entries = c.take_in.ensures ∙ ap (λ (l : List Entry). changed l c.args.place c.hash_of-hash.result self.end is_remove) c.in_ok-reserve_for.ensures.entries in
-    subst (λ (l : List Entry). StandsFor new self.area c.in_ok-self.field-0 l masters (records ++ r ∷ []) (after_record s.geometry.prog state r)) (sym entries)
-    (subst (λ (e : ℕ). StandsFor new self.area e (changed self.table.entries c.args.place c.hash_of-hash.result self.end is_remove) masters (records ++ r ∷ []) (after_record s.geometry.prog state r)) (sym done.end)
+    subst (λ (l : List Entry). StandsFor new self.area c.in_ok-self.field-0 l masters (records ++ r ∷ []) (after_record state r)) (sym entries)
+    (subst (λ (e : ℕ). StandsFor new self.area e (changed self.table.entries c.args.place c.hash_of-hash.result self.end is_remove) masters (records ++ r ∷ []) (after_record state r)) (sym done.end)
     (stands_after device done.writes.kept self.area self.end self.table.entries self.work.items self.work.items r (done.outside (image_of s) device.told (image_of new) still) (done.stands (image_of s) device.told (image_of new) still)
     c.requires.fits c.args.place c.requires.placed c.hash_of-hash.result c.hash_of-hash.ensures is_remove refl c.requires.ready masters records state stands))

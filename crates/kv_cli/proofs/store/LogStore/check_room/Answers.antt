@@ -4,9 +4,11 @@ use Rattle.flash_core.specs.declared.geometry.Geometry.{Geometry}
 use Rattle.flash_core.proofs.GeometryLaws.{size-areas}
 use Rattle.base_core.specs.Units.{up}
 use Rattle.record_core.proofs.SizeLemmas.{up-most}
+use Rattle.kv_cli.specs.EarlyStore.{spent_by}
+use Rattle.kv_cli.specs.Writing.{image_of}
 use Rattle.kv_cli.proofs.ReadingLemmas.{not_both, same_ok}
 use Rattle.kv_cli.proofs.StoreLemmas.{check_fits, check_full, check_protected}
-use Rattle.kv_cli.proofs.TableLemmas.{sizes, written_in}
+use Rattle.kv_cli.proofs.TableLemmas.{log_spent, sizes, written_in}
 use Rattle.kv_cli.proofs.store.LogStore.check_room.Goals as goal
 
 pub returns-in_err-flags-clause-cause : goal.returns-in_err-flags-clause-cause
@@ -16,7 +18,7 @@ returns-in_err-flags-clause-cause g c constants masters records state over stand
 pub returns-then-is_protected-clause-cause : goal.returns-then-is_protected-clause-cause
 returns-then-is_protected-clause-cause g c constants masters records state over stands =
     let flags = same_ok _ _ (c.in_ok-flags.ensures.flags masters records state c.args.key.now stands c.requires.placed) in
-    check_protected constants state c.args.key.now c.args.size (eq-eqb _ 1 (sym (ap (λ (n : ℕ). n % 2) flags) ∙ c.if-is_protected.true))
+    check_protected constants records state c.args.key.now c.args.size (eq-eqb _ 1 (sym (ap (λ (n : ℕ). n % 2) flags) ∙ c.if-is_protected.true))
 
 pub overflow_add-taken : goal.overflow_add-taken
 overflow_add-taken g c =
@@ -62,12 +64,18 @@ pub returns-then-need-room-clause-cause : goal.returns-then-need-room-clause-cau
 returns-then-need-room-clause-cause g c constants masters records state over stands =
     let checked = c.in_ok-flags.ensures in
     let flags = same_ok _ _ (checked.flags masters records state c.args.key.now stands c.requires.placed) in
-    let sized = written_in (g.F.Flash.state c.args.self.now.flash) state checked.ready checked.reads.geometry c.geometry-prog.ensures c.padded_size.ensures c.padded_size-2.ensures c.size_of_record.ensures (ap length c.as_slice.ensures.bytes) over checked.area checked.end stands.spent in
-    check_full constants state c.args.key.now c.args.size (ap (λ (n : ℕ). n % 2 == 1) (sym flags) ∙ ne_eqb _ 1 c.if-is_protected.false) _ _ sized.need_is sized.room_is c.if-need-room.true
+    let self = c.args.self.now in
+    let s = g.F.Flash.state self.flash in
+    let at_end = log_spent s.geometry c.requires.ready.device.valid (image_of s) self.area self.end self.table.entries masters records stands.log constants over in
+    let sized = written_in s (spent_by constants.prog records) checked.ready checked.reads.geometry c.geometry-prog.ensures c.padded_size.ensures c.padded_size-2.ensures c.size_of_record.ensures (ap length c.as_slice.ensures.bytes) over checked.area checked.end at_end in
+    check_full constants records state c.args.key.now c.args.size (ap (λ (n : ℕ). n % 2 == 1) (sym flags) ∙ ne_eqb _ 1 c.if-is_protected.false) _ _ sized.need_is sized.room_is c.if-need-room.true
 
 pub returns-clause-cause : goal.returns-clause-cause
 returns-clause-cause g c constants masters records state over stands =
     let checked = c.in_ok-flags.ensures in
     let flags = same_ok _ _ (checked.flags masters records state c.args.key.now stands c.requires.placed) in
-    let sized = written_in (g.F.Flash.state c.args.self.now.flash) state checked.ready checked.reads.geometry c.geometry-prog.ensures c.padded_size.ensures c.padded_size-2.ensures c.size_of_record.ensures (ap length c.as_slice.ensures.bytes) over checked.area checked.end stands.spent in
-    check_fits constants state c.args.key.now c.args.size (ap (λ (n : ℕ). n % 2 == 1) (sym flags) ∙ ne_eqb _ 1 c.if-is_protected.false) _ _ sized.need_is sized.room_is c.if-need-room.false
+    let self = c.args.self.now in
+    let s = g.F.Flash.state self.flash in
+    let at_end = log_spent s.geometry c.requires.ready.device.valid (image_of s) self.area self.end self.table.entries masters records stands.log constants over in
+    let sized = written_in s (spent_by constants.prog records) checked.ready checked.reads.geometry c.geometry-prog.ensures c.padded_size.ensures c.padded_size-2.ensures c.size_of_record.ensures (ap length c.as_slice.ensures.bytes) over checked.area checked.end at_end in
+    check_fits constants records state c.args.key.now c.args.size (ap (λ (n : ℕ). n % 2 == 1) (sym flags) ∙ ne_eqb _ 1 c.if-is_protected.false) _ _ sized.need_is sized.room_is c.if-need-room.false

@@ -1,0 +1,3 @@
+pub mod MetadataLemmas
+pub mod BodyLemmas
+pub mod RecordLemmas

@@ -1,0 +1,5 @@
+pub mod Metadata
+pub mod Sealed
+pub mod Unseal
+pub mod States
+pub mod Streams

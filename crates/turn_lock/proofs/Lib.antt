@@ -1,0 +1,11 @@
+pub mod Closing
+pub mod Keeping
+pub mod Meeting
+pub mod Noting
+pub mod Prefixes
+pub mod Sharing
+pub mod Starting
+pub mod Totals
+pub mod Turning
+pub mod Uniting
+pub mod Waiting
