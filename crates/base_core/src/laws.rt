@@ -1,4 +1,5 @@
-// Laws of the definitions, and sizes worked out by hand. Each is a function with nothing to do: its contract is the law.
+// Laws of the definitions, and sizes worked out by hand. Each is a function with nothing to do: its
+// contract is the law.
 ghost use Rattle.std.specs.Prelude.{◌≡◌, ◌*◌, ◌≤◌, ℕ};
 ghost use Rattle.base_core.specs.Sizes.{master_size, record_size};
 ghost use Rattle.base_core.specs.Units.{IsMultipleOf, up};

@@ -1,4 +1,5 @@
-//! What every crate of the store may use: sizes in whole units, counts that only rise, and the answer for want of memory.
+//! What every crate of the store may use: sizes in whole units, counts that only rise, and the
+//! answer for want of memory.
 //!
 //! Sizes are in bytes. A unit is what a device programs at least at once.
 #![tactic(auto)]

@@ -6,8 +6,9 @@ ghost use Rattle.flash_core.specs.State.{OnImage};
 
 use crate::{Flash, FlashFault};
 
-/// Erases `count` erase units from `place` on, in ascending order and each by one erase. The fault is that of the
-/// device. At each moment the first of these units are erased, and no other byte differs.
+/// Erases `count` erase units from `place` on, in ascending order and each by one erase. The fault
+/// is that of the device. At each moment the first of these units are erased, and no other byte
+/// differs.
 pub fn erase_units<F: Flash>(flash: &mut F, place: u32, count: u32) -> Result<(), FlashFault>
     requires { AreUnits (F.state flash.old).geometry place count }
     ensures runs { RunsBy (F.state flash.old) (F.state flash.new)

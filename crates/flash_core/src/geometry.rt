@@ -23,9 +23,9 @@ pub struct Geometry {
 impl Geometry {
     ghost use Rattle.flash_core.specs.Sizes.{IsValid, size_of};
 
-    /// Whether the program unit is a power of two up to 4,096, the erase unit a multiple of it that has room
-    /// for a record's header and is at most 65,536, and the device at most 16,777,216 bytes, with areas that
-    /// have room for a master record.
+    /// Whether the program unit is a power of two up to 4,096, the erase unit a multiple of it that
+    /// has room for a record's header and is at most 65,536, and the device at most 16,777,216
+    /// bytes, with areas that have room for a master record.
     pub fn is_valid(&self) -> bool
         ensures { IsTrue result ↔ IsValid self.now }
     {

@@ -1,8 +1,9 @@
-//! The flash device that everything above is generic over: its geometry, the trait `Flash` with all that a
-//! contract may say of a device, and a device in memory.
+//! The flash device that everything above is generic over: its geometry, the trait `Flash` with all
+//! that a contract may say of a device, and a device in memory.
 //!
-//! Places and lengths are in bytes. A program unit is the least that is programmed at once; an erase unit is
-//! the least that is erased at once, to 0xFF. The device has two areas of equal size, area 0 first.
+//! Places and lengths are in bytes. A program unit is the least that is programmed at once; an
+//! erase unit is the least that is erased at once, to 0xFF. The device has two areas of equal size,
+//! area 0 first.
 #![tactic(auto)]
 
 mod erases;

@@ -11,8 +11,9 @@ use crate::{Flash, FlashFault, Geometry};
 use base_core::NoMemory;
 use std::alloc::Global;
 
-/// A device in memory. Without a log it tells its image and no moments, and no call of it fails. With one it keeps its
-/// writes and tells its moments, and a write for which the log has too little room fails and changes nothing.
+/// A device in memory. Without a log it tells its image and no moments, and no call of it fails.
+/// With one it keeps its writes and tells its moments, and a write for which the log has too little
+/// room fails and changes nothing.
 #[derive(Drop)]
 pub struct RecordFlash {
     geometry: Geometry,
@@ -41,8 +42,8 @@ impl RecordFlash {
         })
     }
 
-    /// A device with this image and a log with room for so many bytes of written ranges. It refuses for want of memory
-    /// alone.
+    /// A device with this image and a log with room for so many bytes of written ranges. It refuses
+    /// for want of memory alone.
     pub fn with_log(
         alloc: Global,
         geometry: Geometry,

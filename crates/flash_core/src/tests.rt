@@ -12,7 +12,8 @@ const SMALL: Geometry = Geometry {
     units_per_area: 2,
 };
 
-// The program unit, the erase unit and the erase units of an area, with the size of the device where they are valid.
+// The program unit, the erase unit and the erase units of an area, with the size of the device
+// where they are valid.
 const GEOMETRIES: [(u32, u32, u32, Option<u32>); 22] = [
     (8, 4_096, 16, Some(131_072)),
     (32, 512, 1, Some(1_024)),
@@ -59,7 +60,8 @@ fn a_geometry_is_valid_within_its_limits(rt: HostRuntime) -> Result<(), Fail> {
 // An erased device of four units.
 fn erased_device(alloc: Global) -> Result<RecordFlash, Fail>
     requires { IsValid SMALL }
-    ensures { IfOk result (λ flash. IsMemoryOf (⟦<RecordFlash as Flash>⟧.state flash) SMALL (replicate 256 255)) }
+    ensures { IfOk result (λ flash.
+        IsMemoryOf (⟦<RecordFlash as Flash>⟧.state flash) SMALL (replicate 256 255)) }
 {
     let image = vec![in alloc; 0xFF; 256]?;
     Ok(RecordFlash::new(alloc, SMALL, image)?)
@@ -68,7 +70,8 @@ fn erased_device(alloc: Global) -> Result<RecordFlash, Fail>
 // The same with a log.
 fn logged_device(alloc: Global, room: u32) -> Result<RecordFlash, Fail>
     requires { IsValid SMALL }
-    ensures { IfOk result (λ flash. IsLoggedOf (⟦<RecordFlash as Flash>⟧.state flash) SMALL (replicate 256 255)) }
+    ensures { IfOk result (λ flash.
+        IsLoggedOf (⟦<RecordFlash as Flash>⟧.state flash) SMALL (replicate 256 255)) }
 {
     let image = vec![in alloc; 0xFF; 256]?;
     Ok(RecordFlash::with_log(alloc, SMALL, image, room)?)
@@ -101,7 +104,8 @@ fn a_record_is_programmed_read_and_erased(rt: HostRuntime) -> Result<(), Fail> {
     Ok(())
 }
 
-// The room of a log, and what is refused of a payload of 16 bytes, a header of 24 and an erase of 64.
+// The room of a log, and what is refused of a payload of 16 bytes, a header of 24 and an erase of
+// 64.
 const ROOMS: [(u32, bool, bool, u8, u8); 4] = [
     (15, true, true, 0xFF, 0xFF),
     (39, true, true, 0xFF, 2),

@@ -8,8 +8,8 @@ ghost use Rattle.flash_core.specs.TwoPrograms.{IsHeaderLast, both_put};
 
 use crate::{Flash, FlashFault};
 
-/// Programs a payload and then, at `place` right before it, its header. Until the payload stands whole the
-/// header's range stays erased. The fault is that of the device.
+/// Programs a payload and then, at `place` right before it, its header. Until the payload stands
+/// whole the header's range stays erased. The fault is that of the device.
 pub fn program_payload_then_header<F: Flash>(
     flash: &mut F,
     place: u32,
@@ -18,7 +18,8 @@ pub fn program_payload_then_header<F: Flash>(
 ) -> Result<(), FlashFault>
     requires valid { IsValid (F.state flash.old).geometry }
     requires header { CanProgram (F.state flash.old) place (length header.now) }
-    requires payload { CanProgram (F.state flash.old) (place + length header.now) (length payload.now) }
+    requires payload { CanProgram (F.state flash.old) (place + length header.now)
+        (length payload.now) }
 
     // At each moment the header's range is as it was until the payload is whole.
     ensures runs { RunsBy (F.state flash.old) (F.state flash.new)

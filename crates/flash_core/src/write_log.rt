@@ -13,7 +13,8 @@ pub struct Range {
     pub size: usize,
 }
 
-/// The writes of a device since its first image, each with its range and the bytes that it left there.
+/// The writes of a device since its first image, each with its range and the bytes that it left
+/// there.
 #[derive(Drop)]
 pub struct WriteLog {
     first: Vec<u8>,
@@ -62,7 +63,8 @@ fn append(bytes: &mut Vec<u8>, more: &[u8])
 }
 
 impl WriteLog {
-    /// An empty log with room for so many bytes of written ranges. It refuses for want of memory alone.
+    /// An empty log with room for so many bytes of written ranges. It refuses for want of memory
+    /// alone.
     pub fn new(alloc: Global, image: &[u8], room: u32) -> Result<WriteLog, NoMemory>
         ensures { IfOk result (λ log.
             log ≡ record { first = image.now; writes = []; left = room; faults = 0 }) }

@@ -1,6 +1,6 @@
 -- That what a chip does is what a device may do.
-use Rattle.std.proofs.Common.{◌≡◌, ◌⊎◌, ℕ, ◌+◌, ◌-◌, ◌/◌, ◌<◌, ◌≤◌, ◌↔◌, Bool, true, false, IsTrue, List, [], ◌∷◌, ◌++◌, length, take, drop, replicate, inl, inr, refl, sym, ◌∙◌, ap, arith, subst, if◌then◌else◌}
-use Rattle.std.specs.Prelude.{Option, Some, None, Result, Ok, Err, IsOk, IsErr, IfErr, OnOk, not, ◌&&◌, is_some, nat_le}
+use Rattle.std.proofs.Common.{◌≡◌, ℕ, ◌+◌, ◌/◌, ◌≤◌, ◌↔◌, Bool, true, false, IsTrue, List, length, take, drop, inl, inr, refl, sym, ◌∙◌, ap, arith, subst, if◌then◌else◌}
+use Rattle.std.specs.Prelude.{Option, Some, None, Result, Ok, Err, IsOk, IfErr, OnOk, not, ◌&&◌, is_some}
 use mathlib.Core.Bool.{false≢true}
 use Rattle.std.proofs.lemmas.List.{length-append, length-drop, length-replicate, length-take}
 use Rattle.base_core.specs.Counts.{Rose, counted}
@@ -105,8 +105,15 @@ module _ (T : Type 0) (chip : ChipState) (place : ℕ) (bytes : List ℕ) (fits 
   wrote_on : (x : T) → Writes (device_of chip) (device_of (after_write Goes chip place bytes)) place bytes (Ok x)
   wrote_on x = record {
     kept = record {
-      geometry = refl; label = refl; tells_image = refl; tells_moments = refl; tells_torn = refl;
-      read_faults = omega arith; write_faults = omega arith; sound = sound_on; moment = omega arith;
+      geometry = refl;
+      label = refl;
+      tells_image = refl;
+      tells_moments = refl;
+      tells_torn = refl;
+      read_faults = omega arith;
+      write_faults = omega arith;
+      sound = sound_on;
+      moment = omega arith;
       told = λ t call c le left. left;
     };
     steady = steady_on;
@@ -123,9 +130,15 @@ module _ (T : Type 0) (chip : ChipState) (place : ℕ) (bytes : List ℕ) (fits 
   wrote_not : fate_of chip ≡ Fails → Writes {T = T} (device_of chip) (device_of (after_write Fails chip place bytes)) place bytes (Err Write)
   wrote_not fate = record {
     kept = record {
-      geometry = refl; label = refl; tells_image = refl; tells_moments = refl; tells_torn = refl;
-      read_faults = omega arith; write_faults = counted-ge chip.writes.faults;
-      sound = λ sound. absurd (goes_not_fails (sym (sound_goes chip sound) ∙ fate)); moment = omega arith;
+      geometry = refl;
+      label = refl;
+      tells_image = refl;
+      tells_moments = refl;
+      tells_torn = refl;
+      read_faults = omega arith;
+      write_faults = counted-ge chip.writes.faults;
+      sound = λ sound. absurd (goes_not_fails (sym (sound_goes chip sound) ∙ fate));
+      moment = omega arith;
       told = λ t call c le left. left;
     };
     steady = λ steady. tt;
@@ -148,9 +161,15 @@ module _ (T : Type 0) (chip : ChipState) (place : ℕ) (bytes : List ℕ) (fits 
       subst (λ (n : ℕ). Torn place n chip.image (put chip.image place left_there)) long (Torn-put chip.image place left_there (omega (arith, long, fits))) in
       record {
         kept = record {
-          geometry = refl; label = refl; tells_image = refl; tells_moments = refl; tells_torn = refl;
-          read_faults = omega arith; write_faults = counted-ge chip.writes.faults;
-          sound = λ sound. absurd (goes_not_tears p (sym (sound_goes chip sound) ∙ fate)); moment = omega arith;
+          geometry = refl;
+          label = refl;
+          tells_image = refl;
+          tells_moments = refl;
+          tells_torn = refl;
+          read_faults = omega arith;
+          write_faults = counted-ge chip.writes.faults;
+          sound = λ sound. absurd (goes_not_tears p (sym (sound_goes chip sound) ∙ fate));
+          moment = omega arith;
           told = λ t call c le left. left;
         };
         steady = λ steady. tt;
@@ -218,9 +237,17 @@ sound_still chip is =
 
 only_reads : (chip : ChipState) → OnlyReads (device_of chip) (device_of (after_read chip))
 only_reads chip = record {
-  geometry = refl; image = refl; label = refl; tells_moments = refl; tells_torn = refl; torn = refl;
-  read_faults = faults_since (read_fails chip) chip.reads; write_faults = refl;
-  steady = steady_still chip; sound = sound_still chip; moment = refl;
+  geometry = refl;
+  image = refl;
+  label = refl;
+  tells_moments = refl;
+  tells_torn = refl;
+  torn = refl;
+  read_faults = faults_since (read_fails chip) chip.reads;
+  write_faults = refl;
+  steady = steady_still chip;
+  sound = sound_still chip;
+  moment = refl;
   told = λ t call c. (λ left. left, λ left. left);
 }
 

@@ -1,5 +1,5 @@
 -- What a chip is, and what a write does to it.
-use Rattle.std.specs.Prelude.{◌≡◌, ℕ, ◌-◌, Bool, true, false, not, ◌&&◌, nat_le, if◌then◌else◌, is_some, List, [], ◌∷◌, length, Option, Some, None}
+use Rattle.std.specs.Prelude.{ℕ, ◌-◌, Bool, true, false, not, ◌&&◌, nat_le, if◌then◌else◌, is_some, List, [], ◌∷◌, length, Option, Some, None}
 use Rattle.kv_model.specs.declared.pattern.Pattern.{Pattern}
 use Rattle.flash_core.specs.declared.geometry.Geometry.{Geometry}
 use Rattle.flash_core.specs.Images.{part, put}

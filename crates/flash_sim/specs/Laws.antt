@@ -1,5 +1,5 @@
 -- That a chip is a device.
-use Rattle.std.specs.Prelude.{◌≡◌, Bool, true, false, not, ◌&&◌, IsTrue, List, ℕ, length, Some, is_some}
+use Rattle.std.specs.Prelude.{◌≡◌, Bool, true, false, not, ◌&&◌, IsTrue, length, Some, is_some}
 use Rattle.std.proofs.Common.{◌∙◌, ap, sym, refl}
 use mathlib.Core.Bool.{false≢true}
 use Rattle.flash_core.specs.Sizes.{size_of}

@@ -1,5 +1,5 @@
 -- Device calls of one kind that are named to fail.
-use Rattle.std.specs.Prelude.{ℕ, Bool, true, false, ◌||◌, nat_eq, nat_le, List, [], ◌∷◌, Option, Some, None}
+use Rattle.std.specs.Prelude.{ℕ, Bool, false, ◌||◌, nat_eq, nat_le, List, [], ◌∷◌, Option, Some, None}
 use Rattle.base_core.specs.Counts.{counted}
 
 -- The numbers of the calls that fail, the number of the next call, counted from 1 since they were named, and how many

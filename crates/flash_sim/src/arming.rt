@@ -7,8 +7,8 @@ use kv_model::Pattern;
 use std::alloc::Global;
 use std::marker::Model;
 
-/// A program or erase that was torn: the place of its range, the bytes there before it, and those that a whole call
-/// would have left there.
+/// A program or erase that was torn: the place of its range, the bytes there before it, and those
+/// that a whole call would have left there.
 #[derive(Drop)]
 pub struct Tear {
     pub place: u32,
@@ -16,7 +16,8 @@ pub struct Tear {
     pub after: Vec<u8>,
 }
 
-/// A tear to come: at which write from now, with which pattern, and the memory that the tear will take.
+/// A tear to come: at which write from now, with which pattern, and the memory that the tear will
+/// take.
 #[derive(Drop)]
 pub struct Arming {
     left: u32,

@@ -16,7 +16,8 @@ pub(crate) enum Label {
     Other,
 }
 
-/// A chip in memory. It can be torn at a named write, as by a power cut, and made to fail at named reads and writes.
+/// A chip in memory. It can be torn at a named write, as by a power cut, and made to fail at named
+/// reads and writes.
 #[derive(Drop)]
 pub struct Chip {
     pub(crate) geometry: Geometry,

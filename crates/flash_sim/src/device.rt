@@ -54,12 +54,13 @@ impl Chip {
         }
     }
 
-    /// Arms the chip: the n-th program or erase from now is torn by the pattern, and every device call behind it fails
-    /// until power is on again. It takes the place of an earlier arming. It refuses for want of memory alone, and then
-    /// nothing changes.
+    /// Arms the chip: the n-th program or erase from now is torn by the pattern, and every device
+    /// call behind it fails until power is on again. It takes the place of an earlier arming. It
+    /// refuses for want of memory alone, and then nothing changes.
     pub fn arm(&mut self, alloc: Global, n: u32, pattern: Pattern) -> Result<(), NoMemory>
         requires { 1 ≤ n }
-        ensures armed { IfOk result (λ _. view_of self.new ≡ after_arm (view_of self.old) n pattern) }
+        ensures armed { IfOk result (λ _.
+            view_of self.new ≡ after_arm (view_of self.old) n pattern) }
         ensures same { OnErr result (view_of self.new ≡ view_of self.old) }
     {
         let room = self.geometry.erase as usize;
@@ -86,8 +87,8 @@ impl Chip {
         self.tear.as_ref()
     }
 
-    /// Names reads and writes from now that fail once, each counted from 1 over its kind. A later call replaces both
-    /// lists.
+    /// Names reads and writes from now that fail once, each counted from 1 over its kind. A later
+    /// call replaces both lists.
     pub fn set_faults(&mut self, reads: Vec<u32>, writes: Vec<u32>)
         ensures { view_of self.new ≡ after_naming (view_of self.old) reads.items writes.items }
     {
@@ -115,7 +116,8 @@ impl Chip {
         ensures after { view_of self.new ≡ after_read (view_of self.old) }
         ensures fails { IsOk result ↔ (read_fails (view_of self.old) ≡ false) }
         ensures fault { IfErr result (λ fault. fault ≡ FlashFault.Read) }
-        ensures bytes { OnOk result (buf.new ≡ part (view_of self.old).image place (length buf.old)) }
+        ensures bytes { OnOk result
+            (buf.new ≡ part (view_of self.old).image place (length buf.old)) }
     {
         let is_named = self.reads.count();
         if self.tear.is_some() || is_named {
@@ -131,7 +133,8 @@ impl Chip {
     fn program_range(&mut self, place: u32, bytes: &[u8]) -> Result<(), FlashFault>
         requires inside { place + length bytes.now ≤ length (view_of self.old).image }
         requires most { length bytes.now ≤ (view_of self.old).geometry.erase }
-        ensures after { view_of self.new ≡ after_write (fate_of (view_of self.old)) (view_of self.old) place bytes.now }
+        ensures after { view_of self.new
+            ≡ after_write (fate_of (view_of self.old)) (view_of self.old) place bytes.now }
         ensures goes { IsOk result ↔ (fate_of (view_of self.old) ≡ Goes) }
         ensures fault { IfErr result (λ fault. fault ≡ FlashFault.Write) }
     {
@@ -159,7 +162,8 @@ impl Chip {
     // Erases a unit of the image, as its fate is.
     fn erase_unit(&mut self, place: u32) -> Result<(), FlashFault>
         requires { place + (view_of self.old).geometry.erase ≤ length (view_of self.old).image }
-        ensures after { view_of self.new ≡ after_write (fate_of (view_of self.old)) (view_of self.old) place
+        ensures after { view_of self.new
+            ≡ after_write (fate_of (view_of self.old)) (view_of self.old) place
             (replicate (view_of self.old).geometry.erase 255) }
         ensures goes { IsOk result ↔ (fate_of (view_of self.old) ≡ Goes) }
         ensures fault { IfErr result (λ fault. fault ≡ FlashFault.Write) }
@@ -201,7 +205,8 @@ impl Flash for Chip {
     /// A read fails exactly on a torn chip, and where it is named.
     fn read(&mut self, place: u32, buf: &mut [u8]) -> Result<(), FlashFault>
         requires { CanRead (device_of (view_of self.old)) place (length buf.old) }
-        ensures reads { Reads (device_of (view_of self.old)) (device_of (view_of self.new)) place buf.new result }
+        ensures reads { Reads (device_of (view_of self.old)) (device_of (view_of self.new))
+            place buf.new result }
         ensures after { view_of self.new ≡ after_read (view_of self.old) }
         ensures fails { IsOk result ↔ (read_fails (view_of self.old) ≡ false) }
     {
@@ -211,8 +216,10 @@ impl Flash for Chip {
     /// A write goes on, fails or is torn as the chip was told.
     fn program(&mut self, place: u32, bytes: &[u8]) -> Result<(), FlashFault>
         requires { CanProgram (device_of (view_of self.old)) place (length bytes.now) }
-        ensures writes { Writes (device_of (view_of self.old)) (device_of (view_of self.new)) place bytes.now result }
-        ensures after { view_of self.new ≡ after_write (fate_of (view_of self.old)) (view_of self.old) place bytes.now }
+        ensures writes { Writes (device_of (view_of self.old)) (device_of (view_of self.new))
+            place bytes.now result }
+        ensures after { view_of self.new
+            ≡ after_write (fate_of (view_of self.old)) (view_of self.old) place bytes.now }
         ensures goes { IsOk result ↔ (fate_of (view_of self.old) ≡ Goes) }
     {
         self.program_range(place, bytes)
@@ -221,9 +228,11 @@ impl Flash for Chip {
     /// A write goes on, fails or is torn as the chip was told.
     fn erase(&mut self, place: u32) -> Result<(), FlashFault>
         requires { CanErase (device_of (view_of self.old)) place }
-        ensures writes { Writes (device_of (view_of self.old)) (device_of (view_of self.new)) place
+        ensures writes { Writes (device_of (view_of self.old)) (device_of (view_of self.new))
+            place
             (erased_unit (device_of (view_of self.old))) result }
-        ensures after { view_of self.new ≡ after_write (fate_of (view_of self.old)) (view_of self.old) place
+        ensures after { view_of self.new
+            ≡ after_write (fate_of (view_of self.old)) (view_of self.old) place
             (erased_unit (device_of (view_of self.old))) }
         ensures goes { IsOk result ↔ (fate_of (view_of self.old) ≡ Goes) }
     {

@@ -13,7 +13,8 @@ pub enum Fate {
     Tears(Arming),
 }
 
-/// What comes of the next write of a chip that is torn or not, where it is named or not. A tear that is due is taken.
+/// What comes of the next write of a chip that is torn or not, where it is named or not. A tear
+/// that is due is taken.
 pub fn next_fate(is_torn: bool, armed: &mut Option<Arming>, is_named: bool) -> Fate
     ensures fate { told_fate result ≡ fate_by is_torn armed.old is_named }
     ensures armed { armed.new ≡ armed_after is_torn armed.old }
@@ -28,5 +29,9 @@ pub fn next_fate(is_torn: bool, armed: &mut Option<Arming>, is_named: bool) -> F
             *armed = Some(arming);
         }
     }
-    if is_torn || is_named { Fate::Fails } else { Fate::Goes }
+    if is_torn || is_named {
+        Fate::Fails
+    } else {
+        Fate::Goes
+    }
 }

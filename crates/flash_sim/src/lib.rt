@@ -1,5 +1,5 @@
-//! A simulated chip: a device in memory that can be torn at a named write, as by a power cut, and made to fail at named
-//! reads and writes. It keeps no writes and tells no moments.
+//! A simulated chip: a device in memory that can be torn at a named write, as by a power cut, and
+//! made to fail at named reads and writes. It keeps no writes and tells no moments.
 #![tactic(auto)]
 
 mod arming;

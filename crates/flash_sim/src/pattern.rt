@@ -22,7 +22,8 @@ fn mix(seed: u32, range: &mut [u8])
     }
 }
 
-/// Leaves a range as the pattern says, from the bytes that it has and those that a whole call would leave there.
+/// Leaves a range as the pattern says, from the bytes that it has and those that a whole call would
+/// leave there.
 pub fn leave(pattern: Pattern, range: &mut [u8], after: &[u8])
     requires { length after.now ≡ length range.old }
     ensures { range.new ≡ torn_bytes pattern range.old after.now }

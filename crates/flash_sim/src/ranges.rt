@@ -28,7 +28,8 @@ pub fn clear(image: &mut Vec<u8>, place: usize, n: usize)
 pub fn leave_at(image: &mut Vec<u8>, place: usize, pattern: Pattern, after: &[u8])
     requires { place + length after.now ≤ length image.old.items }
     ensures image { image.new.items
-        ≡ put image.old.items place (torn_bytes pattern (part image.old.items place (length after.now)) after.now) }
+        ≡ put image.old.items place (torn_bytes pattern
+        (part image.old.items place (length after.now)) after.now) }
     ensures sized { length image.new.items ≡ length image.old.items }
 {
     leave(pattern, &mut image[place..place + after.len()], after);
@@ -41,4 +42,3 @@ pub fn range_of(image: &[u8], place: usize, n: usize) -> &[u8]
 {
     &image[place..place + n]
 }
-

@@ -34,8 +34,8 @@ fn program_both(chip: &mut Chip) -> Result<(), FlashFault>
     program_payload_then_header(chip, 64, &[1; 24], &[2; 16])
 }
 
-// Which write is torn and how, and the bytes at 64, 75, 76, 88, 95 and 96 afterwards: the header has the first three,
-// and the payload the others.
+// Which write is torn and how, and the bytes at 64, 75, 76, 88, 95 and 96 afterwards: the header
+// has the first three, and the payload the others.
 const TEARS: [(u32, Pattern, [u8; 6]); 8] = [
     (1, Pattern::None, [255, 255, 255, 255, 255, 255]),
     (1, Pattern::Half, [255, 255, 255, 2, 2, 255]),
@@ -56,13 +56,16 @@ fn a_torn_write_leaves_its_range_as_the_pattern_says(rt: HostRuntime) -> Result<
         assert!(rt; program_both(&mut chip).is_err());
         assert!(rt; chip.torn().is_some());
         let image = chip.into_image();
-        let got = [image[64], image[75], image[76], image[88], image[95], image[96]];
+        let got = [
+            image[64], image[75], image[76], image[88], image[95], image[96],
+        ];
         assert_eq!(rt; got, left, "{n} {pattern:?}");
     }
     Ok(())
 }
 
-// The high bytes of 1015568748, 1586005467, 2165703038, 3027450565, 217083232, 1587069247, 3327581586 and 2388811721.
+// The high bytes of 1015568748, 1586005467, 2165703038, 3027450565, 217083232, 1587069247,
+// 3327581586 and 2388811721.
 #[test]
 fn a_mixed_tear_leaves_the_numbers_of_its_seed(rt: HostRuntime) -> Result<(), Fail> {
     assert!(rt; SMALL.is_valid());

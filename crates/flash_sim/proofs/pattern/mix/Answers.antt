@@ -1,4 +1,4 @@
-use Rattle.std.proofs.Common.{◌≡◌, ℕ, suc, ◌+◌, ◌/◌, ◌^◌, ◌<◌, ◌∙◌, length, refl, ap, arith, add-one, sym}
+use Rattle.std.proofs.Common.{◌≡◌, ℕ, suc, ◌/◌, ◌^◌, ◌∙◌, length, refl, ap, arith, add-one, sym}
 use Rattle.flash_sim.specs.Patterns.{next_number, number_at}
 use Rattle.flash_sim.proofs.MixLaws.{mixed_is, mixed_more, number_next}
 use Rattle.flash_sim.proofs.pattern.mix.Goals as goal

@@ -1,4 +1,4 @@
-use Rattle.std.proofs.Common.{◌≡◌, ℕ, ◌+◌, ◌/◌, ◌^◌, ◌<◌, get_or, suc}
+use Rattle.std.proofs.Common.{◌≡◌, ℕ, ◌/◌, ◌^◌, ◌<◌, get_or, suc}
 use Rattle.flash_sim.specs.Patterns.{number_at}
 use Rattle.flash_sim.proofs.pattern.mix.Given as goal
 

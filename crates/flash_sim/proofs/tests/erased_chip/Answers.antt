@@ -1,4 +1,4 @@
-use Rattle.std.proofs.Common.{◌≡◌, List, ℕ, replicate, rules, ap, ◌∙◌}
+use Rattle.std.proofs.Common.{◌≡◌, replicate, rules, ap, ◌∙◌}
 use Rattle.flash_sim.specs.ChipState.{new_chip}
 use Rattle.flash_sim.specs.declared.tests.TheConstants.{SMALL}
 use Rattle.flash_sim.proofs.tests.erased_chip.Goals as goal

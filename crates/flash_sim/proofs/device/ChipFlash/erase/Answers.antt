@@ -1,4 +1,4 @@
-use Rattle.std.proofs.Common.{◌≡◌, ◌+◌, ◌≤◌, length, replicate, arith, ℕ}
+use Rattle.std.proofs.Common.{◌+◌, ◌≤◌, length, replicate, arith, ℕ}
 use Rattle.std.proofs.lemmas.List.{length-replicate}
 use Rattle.flash_core.proofs.KeptLaws.{CanErase-fits}
 use Rattle.flash_sim.specs.Views.{view_of}
