@@ -5,6 +5,7 @@ use kv_host::StdHost;
 use std::alloc::Global;
 use std::env::Args;
 use std::io::{self, ErrorKind};
+use std::process::Abort;
 use std::rc::RcStr;
 use std::test::Fail;
 use std::{env, fs, process};
@@ -78,26 +79,24 @@ fn arguments_of(alloc: Global, words: &[&str]) -> Result<Args, Fail> {
     Ok(arguments.into_iter())
 }
 
+/// The arguments give these words.
+fn give<R: Abort>(rt: &R, alloc: Global, all: &[&str], expected: &[&str]) -> Result<(), Fail> {
+    let words = words_behind_name(alloc, Ok(arguments_of(alloc, all)?))?;
+    assert_eq!(rt; words.len(), expected.len());
+    for (word, expected) in words.iter().zip(expected) {
+        assert_eq!(rt; word.as_str(), *expected);
+    }
+    Ok(())
+}
+
 #[test]
 fn the_words_are_those_behind_the_name(rt: HostRuntime) -> Result<(), Fail> {
     let alloc = rt.alloc();
-    let rows: [(&[&str], &[&str]); 4] = [
-        (
-            &["vaskeldi", "replay", "p", "-", "s"],
-            &["replay", "p", "-", "s"],
-        ),
-        (&["vaskeldi", "", "b", ""], &["", "b", ""]),
-        (&["vaskeldi"], &[]),
-        (&[], &[]),
-    ];
-    for (all, expected) in rows {
-        let words = words_behind_name(alloc, Ok(arguments_of(alloc, all)?))?;
-        assert_eq!(rt; words.len(), expected.len());
-        for (word, expected) in words.iter().zip(expected) {
-            assert_eq!(rt; word.as_str(), *expected);
-        }
-    }
-    Ok(())
+    let replay = ["vaskeldi", "replay", "p", "-", "s"];
+    give(&rt, alloc, &replay, &replay[1..])?;
+    give(&rt, alloc, &["vaskeldi", "", "b", ""], &["", "b", ""])?;
+    give(&rt, alloc, &["vaskeldi"], &[])?;
+    give(&rt, alloc, &[], &[])
 }
 
 #[test]
