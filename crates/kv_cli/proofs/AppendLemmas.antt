@@ -1,6 +1,6 @@
 -- What a store stands for once a record was written at its end.
 use Rattle.std.proofs.Common.{◌≡◌, ℕ, ◌+◌, ◌-◌, ◌<◌, ◌≤◌, Bool, true, false, List, [], ◌∷◌, ◌++◌, length, inl, inr, ⊎_elim, refl, sym, ◌∙◌, ap, subst, arith}
-use Rattle.std.specs.Prelude.{◌==◌, if◌then◌else◌, Option, Some, None, is_some, Result, Ok, Err, IfOk, IfErr, OnOk, slice_set}
+use Rattle.std.specs.Prelude.{◌==◌, if◌then◌else◌, IsTrue, Option, Some, None, is_some, Result, Ok, Err, IfOk, IfErr, OnOk, slice_set}
 use Rattle.std.specs.FinMap as map
 use Rattle.std.specs.Option.{unwrap_or}
 use Rattle.std.proofs.lemmas.Bool.{cases_eq, ne_eqb}
@@ -8,13 +8,13 @@ use Rattle.std.proofs.lemmas.List.{get_or-set_other, get_or-set_same, length-set
 use mathlib.Core.Bool.{false≢true}
 use Rattle.flash_core.specs.declared.geometry.Geometry.{Geometry}
 use Rattle.flash_core.specs.Calls.{Keeps}
-use Rattle.flash_core.specs.Images.{part, IsErased, Torn}
+use Rattle.flash_core.specs.Images.{part, put, IsErased, Torn}
 use Rattle.flash_core.specs.Sizes.{IsValid, area_size, size_of}
 use Rattle.flash_core.specs.State.{FlashState}
 use Rattle.base_core.specs.Units.{IsMultipleOf}
 use Rattle.flash_core.proofs.ImageLaws.{IsErased-Torn, IsErased-within, part-Torn}
 use Rattle.flash_core.proofs.GeometryLaws.{prog_positive, size-areas}
-use Rattle.base_core.proofs.UnitLemmas.{IsMultipleOf-add, IsMultipleOf-up}
+use Rattle.base_core.proofs.UnitLemmas.{IsMultipleOf-add, up-multiple}
 use Rattle.kv_model.specs.Crc.{key_hash}
 use Rattle.kv_model.specs.FlaggedMap.{Stored, FlaggedMap}
 use Rattle.kv_model.specs.Flags.{remove_flags}
@@ -26,10 +26,12 @@ use Rattle.kv_model.specs.declared.call.Reply.{Reply}
 use Rattle.kv_model.specs.declared.call.Reply.TheVariants.{Done}
 use Rattle.kv_model.specs.declared.error.KvError.{KvError}
 use Rattle.kv_model.specs.declared.error.KvError.TheVariants.{Memory}
-use Rattle.record_core.specs.Log.{AreAllRecords, AreRecords, IsRecordAt, extent}
+use Rattle.kv_model.specs.Keys.{is_key}
+use Rattle.record_core.specs.Header.{IsHeader}
+use Rattle.record_core.specs.Log.{AreAllRecords, AreRecords, IsRecordAt, extent, spelling_of}
 use Rattle.record_core.specs.Mounts.{ActiveRecords, MasterAt}
 use Rattle.record_core.specs.Record.{IsMaster}
-use Rattle.record_core.proofs.LogLemmas.{AreRecords-append, AreRecords-Torn, all_before_erased, extent-positive}
+use Rattle.record_core.proofs.LogLemmas.{AreRecords-append, AreRecords-Torn, IsRecordAt-put, all_before_erased, extent-positive}
 use Rattle.kv_model.proofs.WritesLemmas.{map_of-append}
 use Rattle.area_log.specs.declared.area.Area.{Area}
 use Rattle.area_log.specs.Areas.{end_of, first_place, IsAreaOf}
@@ -143,10 +145,6 @@ told_of : (o : Option (List ℕ)) → is_some o ≡ true → o ≡ Some (unwrap_
 told_of None is = absurd (false≢true is)
 told_of (Some image) is = refl
 
-whole_up : (prog x : ℕ) → IsMultipleOf prog (up prog x)
-unfolding up
-whole_up prog x = IsMultipleOf-up prog x
-
 module _ {old new : FlashState} (device : IsTold old) (kept : Keeps old new) where
   -- a sound device tells its image after a write too
   pub still_told : new.image ≡ Some (image_of new)
@@ -183,7 +181,7 @@ module _ {old new : FlashState} (device : IsTold old) (kept : Keeps old new) whe
       log = still_log ready.masters ready.records ready.log;
       end_aligned = subst (λ (x : Geometry). IsMultipleOf x.prog (end + extent g.prog r)) (sym kept.geometry)
           (IsMultipleOf-add g.prog end (extent g.prog r) ready.end_aligned
-          (IsMultipleOf-add g.prog (up g.prog 24) (up g.prog (length r.key + length r.value)) (whole_up g.prog 24) (whole_up g.prog (length r.key + length r.value))));
+          (IsMultipleOf-add g.prog (up g.prog 24) (up g.prog (length r.key + length r.value)) (up-multiple g.prog 24) (up-multiple g.prog (length r.key + length r.value))));
       erased = erased;
       within = AreIn-changed area entries place.at hash end is_remove place.found ready.within placed.inside placed.there
           (omega (arith, begins g device.valid (image_of old) area end entries ready.masters ready.records ready.log))
@@ -199,6 +197,17 @@ module _ {old new : FlashState} (device : IsTold old) (kept : Keeps old new) whe
       running = stood.running;
       no_set = stood.no_set;
     }
+
+-- a record that was written stands
+pub record_stands : (old new : FlashState) → IsTold old → new.image ≡ Some (image_of new) → (at : ℕ) (r : Write) → IsTrue (is_key r.key) → IsHeader r.flags (length r.key) (length r.value)
+    → at + extent old.geometry.prog r ≤ size_of old.geometry → new.image ≡ Some (put (image_of old) at (spelling_of old.geometry.prog r)) → IsRecordAt old.geometry.prog (image_of new) at r
+record_stands old new device still at r key valid fits is =
+    let same : put (image_of old) at (spelling_of old.geometry.prog r) ≡ image_of new = some_is _ _ (sym is ∙ still) in
+    subst (λ (l : List ℕ). IsRecordAt old.geometry.prog l at r) same
+    (IsRecordAt-put old.geometry.prog (prog_positive old.geometry device.valid) (image_of old) at r key valid (omega (arith, fits, device.sized)))
+  where
+    some_is : (x y : List ℕ) → Some x ≡ Some y → x ≡ y
+    some_is x y same = cc
 
 -- what the map is once a value was set
 applied_plain : (m : FlaggedMap) (key : List ℕ) (stored : Stored) → stored.flags < 2 → map.insert m key stored ≡ applied (record_of key stored) m

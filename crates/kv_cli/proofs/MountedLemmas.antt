@@ -27,7 +27,8 @@ use Rattle.tdb_mount.specs.Mounted.{IsMountOf, IsSafe}
 use Rattle.tdb_mount.specs.Room.{AreIn, area_of}
 use mathlib.Core.Bool.{false≢true}
 use Rattle.tdb_mount.proofs.MountLemmas.{no_second}
-use Rattle.tdb_mount.proofs.FormatLemmas.{length-erased, master_in_area}
+use Rattle.flash_core.proofs.EraseLaws.{length-erased}
+use Rattle.tdb_mount.proofs.FormatLemmas.{master_in_area}
 use Rattle.kv_cli.specs.Writing.{image_of, IsTold}
 use Rattle.kv_cli.specs.LogStore.{HasDirtyTail, Masters, IsLogOf, IsReady, StandsFor, hash_bits}
 use Rattle.kv_cli.proofs.AppendLemmas.{still_told}
@@ -103,7 +104,7 @@ module _ (g : Geometry) (valid : IsValid g) (image : List ℕ) (sized : length i
   area_fits = omega (arith, sized, size-areas g)
 
   middle_long : length (first_erased g image) ≡ length image
-  middle_long = length-erased image (area_size g) area_fits
+  middle_long = length-erased image 0 (area_size g) area_fits
 
   long : length (master_bytes g.prog 1) ≡ master_size g.prog
   long = length-master_bytes g.prog fresh_positive 1

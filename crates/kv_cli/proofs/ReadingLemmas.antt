@@ -1,6 +1,6 @@
 -- What is read back of a record.
-use Rattle.std.proofs.Common.{◌≡◌, ◌≢◌, ℕ, ◌-◌, ◌<◌, ◌≤◌, List, ◌++◌, length, take, drop, min, replicate, Result, Ok, Err, IfOk, IfErr, MatchResult, ⊎_elim, refl, sym, ◌∙◌, ap, subst, arith}
-use Rattle.std.specs.Prelude.{IsErr, Option, Some, None, nat_lt, true, false}
+use Rattle.std.proofs.Common.{◌≡◌, ◌≢◌, ◌⊎◌, ℕ, ◌+◌, ◌-◌, ◌<◌, ◌≤◌, List, ◌++◌, length, take, drop, min, replicate, Result, Ok, Err, IfOk, IfErr, MatchResult, ⊎_elim, refl, sym, ◌∙◌, ap, subst, arith}
+use Rattle.std.specs.Prelude.{IsErr, IsTrue, Option, Some, None, nat_lt, true, false}
 use mathlib.Core.Bool.{false≢true}
 use Rattle.std.proofs.lemmas.Bool.{cases_lt}
 use Rattle.std.proofs.lemmas.Bool.Decides.{nat_tests}
@@ -9,30 +9,31 @@ use Rattle.flash_core.specs.Images.{part}
 use Rattle.kv_model.specs.FlaggedMap.{Stored}
 use Rattle.kv_model.specs.declared.call.Reply.{Reply}
 use Rattle.kv_model.specs.declared.call.Reply.TheVariants.{Refused, Value}
-use Rattle.flash_core.specs.State.{FlashState, IfTold}
+use Rattle.flash_core.specs.State.{FlashState}
 use Rattle.kv_model.specs.Write.{Write}
 use Rattle.base_core.specs.declared.no_memory.NoMemory.{NoMemory}
 use Rattle.kv_model.specs.declared.call.Got.{Got}
 use Rattle.kv_model.specs.declared.error.KvError.{KvError}
 use Rattle.kv_model.specs.declared.error.KvError.TheVariants.{InvalidSize, Memory, NotFound}
-use Rattle.record_core.specs.Log.{IsRecordAt}
-use Rattle.area_log.specs.Reading.{Gives, IsNotRead, IsWithin, filled}
+use Rattle.flash_core.proofs.GeometryLaws.{prog_positive}
+use Rattle.record_core.specs.Log.{IsRecordAt, extent}
+use Rattle.record_core.specs.Lookup.{IsReadFault}
+use Rattle.area_log.proofs.ReadLemmas.{value_of_record}
+use Rattle.area_log.specs.Reading.{Gives, IsWithin, ReadsValue, filled}
 use Rattle.kv_model.specs.declared.limits.TheConstants.{MAX_VALUE}
 use Rattle.kv_cli.specs.LogStore.{IfAnswered}
 use Rattle.kv_cli.specs.Reading.{IsPartOf}
 use Rattle.kv_cli.specs.Writing.{image_of, IsTold}
 
--- a read of a record on a sound device that tells its image
-pub read_answer : (s new : FlashState) → s.steady → IsTold s → (at offset : ℕ) (buf : List ℕ) (result : Result Got KvError) (r : Write) → IsRecordAt s.geometry.prog (image_of s) at r
-    → IfErr result (IsNotRead s new at offset) → IfTold s.image (λ image. (r : Write) → IsRecordAt s.geometry.prog image at r → IfOk result (Gives r offset buf))
-    → MatchResult result (Gives r offset buf) (λ error. (error ≡ InvalidSize) × (length r.value < offset))
-read_answer s new steady device at offset buf (Ok got) r stands cause gives = gives (image_of s) device.told r stands
-read_answer s new steady device at offset buf (Err e) r stands cause gives = ⊎_elim
-    (λ fault. absurd (fault.unsteady steady))
-    (⊎_elim
-    (λ corrupt. absurd (corrupt.untold (image_of s) device.told))
-    (λ beyond. (beyond.is, beyond.beyond (image_of s) device.told r stands)))
-    cause
+-- a read of a record on a steady device that tells its image
+pub read_answer : (s new : FlashState) → IsTrue s.steady → IsTold s → (at end offset : ℕ) (buf : List ℕ) (result : Result Got KvError) (r : Write) → IsRecordAt s.geometry.prog (image_of s) at r → at + extent s.geometry.prog r ≤ end
+    → ReadsValue s new at (end - at) offset buf result → MatchResult result (Gives r offset buf) (λ error. (error ≡ InvalidSize) × (length r.value < offset))
+read_answer s new steady device at end offset buf result r stands inside reads =
+    no_fault result (value_of_record s (prog_positive s.geometry device.valid) (image_of s) device.told at end r stands inside new offset buf result reads)
+  where
+    no_fault : (x : Result Got KvError) → MatchResult x (Gives r offset buf) (λ e. IsReadFault s new e ⊎ ((e ≡ InvalidSize) × (length r.value < offset))) → MatchResult x (Gives r offset buf) (λ error. (error ≡ InvalidSize) × (length r.value < offset))
+    no_fault (Ok got) gives = gives
+    no_fault (Err e) cause = ⊎_elim (λ fault. absurd (fault.unsteady steady)) (λ beyond. beyond) cause
 
 abbrev pub ok : {T : Type 0} → T → Result T KvError
 ok x = Ok x

@@ -31,11 +31,11 @@ use area_log::Area;
 use flash_core::Flash;
 use kv_model::{Bytes, Call, Flags, Got, Key, KvError, NoMemory, Reply};
 use ram_table::{Place, RamTable};
-use record_core::{padded_size, size_of_record};
+use record_core::{hash_of, padded_size, size_of_record};
 use std::alloc::Global;
 use std::marker::Brand;
 use std::sync::ledger::Blank;
-use tdb_mount::{area_at, hash_of, mount_parts, place_of};
+use tdb_mount::{area_at, mount_parts, place_of};
 
 const MAX_VALUE: usize = kv_model::MAX_VALUE as usize;
 

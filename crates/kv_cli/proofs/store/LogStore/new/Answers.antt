@@ -15,7 +15,7 @@ returns-clause-ready g c =
     let done = c.in-Ok.ensures in
     let area = c.area_at-area.ensures in
     let same = c.geometry.ensures in
-    mounted_ready c.requires.told done.kept (g.met.F.Flash.lawful c.mount_parts.new.flash) c.in-Ok.parts done.safe done.mounted (is_there c.in-Ok.parts.clean c.if-not-parts.false) c.area_at-area.result
+    mounted_ready c.requires.told done.runs.kept (g.met.F.Flash.lawful c.mount_parts.new.flash) c.in-Ok.parts done.safe done.mounted (is_there c.in-Ok.parts.clean c.if-not-parts.false) c.area_at-area.result
     (area.area ∙ ap (λ (x : Geometry). area_of x c.in-Ok.parts.active) same) (subst (λ (x : Geometry). IsAreaOf x c.area_at-area.result) same area.is_area) c.in-Ok-vec.work.items (search rules)
 
 pub returns-clause-leaves : goal.returns-clause-leaves
@@ -24,14 +24,14 @@ returns-clause-leaves g c first second first_is second_is =
     let new = g.F.Flash.state c.mount_parts.new.flash in
     let done = c.in-Ok.ensures in
     leaves_any MountError s.geometry (image_of s) (image_of new) c.in-Ok.parts (active_area first second)
-    (done.leaves (image_of s) c.requires.told.told (image_of new) (still_told c.requires.told done.kept) first second first_is second_is)
+    (done.leaves (image_of s) c.requires.told.told (image_of new) (still_told c.requires.told done.runs.kept) first second first_is second_is)
 
 pub returns-clause-stands : goal.returns-clause-stands
 returns-clause-stands g c vector contents holds =
     let done = c.in-Ok.ensures in
     let area = c.area_at-area.ensures in
     let same = c.geometry.ensures in
-    mounted_stands c.requires.told done.kept (g.met.F.Flash.lawful c.mount_parts.new.flash) c.in-Ok.parts done.safe done.mounted (is_there c.in-Ok.parts.clean c.if-not-parts.false) c.area_at-area.result
+    mounted_stands c.requires.told done.runs.kept (g.met.F.Flash.lawful c.mount_parts.new.flash) c.in-Ok.parts done.safe done.mounted (is_there c.in-Ok.parts.clean c.if-not-parts.false) c.area_at-area.result
     (area.area ∙ ap (λ (x : Geometry). area_of x c.in-Ok.parts.active) same) (subst (λ (x : Geometry). IsAreaOf x c.area_at-area.result) same area.is_area) vector contents holds
 
 pub returns-then-not-parts-clause-dirty : goal.returns-then-not-parts-clause-dirty
@@ -40,7 +40,7 @@ returns-then-not-parts-clause-dirty g c same contents holds =
     let new = g.F.Flash.state c.mount_parts.new.flash in
     let device = c.requires.told in
     let done = c.in-Ok.ensures in
-    let still = still_told device done.kept in
+    let still = still_told device done.runs.kept in
     tail_dirty s.geometry device.valid (image_of s) (image_of new) device.sized c.in-Ok.parts (done.mounted (image_of new) still) (is_missing c.in-Ok.parts.clean c.if-not-parts.true) contents holds
     (λ first second first_is second_is. leaves_any MountError s.geometry (image_of s) (image_of new) c.in-Ok.parts (active_area first second)
     (done.leaves (image_of s) device.told (image_of new) still first second first_is second_is))
