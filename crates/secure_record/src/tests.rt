@@ -102,11 +102,11 @@ struct Told {
 }
 
 // Opens a record in place, in two pieces that are cut there or at the end of the value.
-fn open_in_two(key: &Key, record: &mut [u8], cut: usize) -> Result<Told, KvError>
-    requires { length record.old < 2 ^ 32 }
+fn open_in_two(key: &Key, sealed: &mut [u8], cut: usize) -> Result<Told, KvError>
+    requires { length sealed.old < 2 ^ 32 }
 {
-    let length = record.len();
-    let head = &record[..length.min(40)];
+    let length = sealed.len();
+    let head = &sealed[..length.min(40)];
     let mut stream = OpenStream::new(&ROOT, key, head, length as u32)?;
     let told = Told {
         head_size: stream.head_size(),
@@ -115,7 +115,7 @@ fn open_in_two(key: &Key, record: &mut [u8], cut: usize) -> Result<Told, KvError
         has_prior: stream.prior() == Some(PRIOR),
     };
     let start = told.head_size as usize;
-    let (stored, behind) = record[start..].split_at_mut(told.size as usize);
+    let (stored, behind) = sealed[start..].split_at_mut(told.size as usize);
     let mut tag = [0; 16];
     tag.copy_from_slice(behind);
     let (front, back) = stored.split_at_mut(cut.min(told.size as usize));
