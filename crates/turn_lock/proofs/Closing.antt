@@ -1,15 +1,14 @@
 -- What the last turn leaves.
-use Rattle.std.proofs.Common.{◌≡◌, ◌≢◌, ◌⊎◌, ℕ, zero, suc, ◌+◌, ◌-◌, ◌≤◌, ◌<◌, List, [], ◌∷◌, length, set, Option, Some, None, refl, sym, ap, ◌∙◌, subst, arith}
+use Rattle.std.proofs.Common.{◌≡◌, ℕ, ◌≤◌, List, length, set, Option, Some, sym, ap, ◌∙◌, subst, arith}
 use mathlib.Core.Option.{some}
 use mathlib.Core.List.{IsPrefix}
 use lib.ListN.{get_elem?}
 use Rattle.atomic_table.specs.Table.{State}
 use Rattle.kv_model.specs.Opening.{Opening}
-use Rattle.kv_model.specs.declared.call.Entry.{Entry}
 use Rattle.turn_lock.specs.Books.{Book}
-use Rattle.turn_lock.specs.Totals.{total, is_one, times, once}
+use Rattle.turn_lock.specs.Totals.{total, times, once}
 use Rattle.turn_lock.specs.Views.{ALL, spent, taken, loaded, in_phase, with_found}
-use Rattle.turn_lock.specs.Rule.{out, last, live, busy, Knows, Fits, Kept}
+use Rattle.turn_lock.specs.Rule.{last, live, Knows, Fits, Kept}
 use Rattle.turn_lock.specs.Passes.{HasClosed}
 use Rattle.turn_lock.specs.declared.view.View.{View}
 use Rattle.turn_lock.specs.declared.view.Phase.TheVariants.{Closing}

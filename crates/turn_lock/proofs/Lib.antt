@@ -1,3 +1,4 @@
+pub mod Agreeing
 pub mod Closing
 pub mod Keeping
 pub mod Meeting

@@ -1,24 +1,23 @@
 -- The store that notes the history keeps the rule.
-use Rattle.std.proofs.Common.{◌≡◌, ◌≢◌, ◌⊎◌, ⊎_elim, inl, inr, ℕ, zero, suc, ◌+◌, ◌-◌, ◌≤◌, ◌<◌, Bool, true, false, cond, ltb, List, [], ◌∷◌, ◌++◌, length, set, Option, Some, None, IfSome, refl, sym, ap, ◌∙◌, subst, arith, length-append, slice_index, slice_set}
+use Rattle.std.proofs.Common.{◌≡◌, ◌≢◌, ◌⊎◌, ⊎_elim, inl, inr, ℕ, ◌+◌, ◌≤◌, ◌<◌, Bool, true, false, cond, ltb, List, [], ◌∷◌, ◌++◌, length, set, Option, Some, None, IfSome, refl, sym, ap, ◌∙◌, subst, arith, length-append, slice_set}
 use Rattle.std.proofs.lemmas.Bool.{ltb-true, ltb-false}
-use mathlib.Core.Option.{some, some-injective, some-ne-none}
+use mathlib.Core.Option.{some}
 use mathlib.Core.Logic.{dite}
 use mathlib.Core.List.{IsPrefix}
 use native.Mathlib.Decide.{ℕ_discrete}
 use lib.ListN.{get_elem?}
-use Rattle.atomic_table.specs.Table.{State, Act, keeps, Allows}
-use Rattle.atomic_table.proofs.Lists.{at_set, set_here, set_else}
+use Rattle.atomic_table.specs.Table.{State, keeps, Allows}
+use Rattle.atomic_table.proofs.Lists.{at_set, set_else}
 use Rattle.kv_model.specs.Opening.{Opening}
-use Rattle.kv_model.specs.declared.call.Entry.{Entry}
 use Rattle.turn_lock.specs.Books.{Book}
-use Rattle.turn_lock.specs.Totals.{total, is_one, times, once}
-use Rattle.turn_lock.specs.Views.{ALL, spent, own_after, marks_after, noted}
-use Rattle.turn_lock.specs.Rule.{out, last, live, has_all, busy, Knows, Fits, Kept}
+use Rattle.turn_lock.specs.Totals.{total, times, once}
+use Rattle.turn_lock.specs.Views.{ALL, spent, marks_after, noted}
+use Rattle.turn_lock.specs.Rule.{out, has_all, busy, Knows, Kept}
 use Rattle.turn_lock.specs.Steps.{Seated, IsNext, Notes}
 use Rattle.turn_lock.specs.declared.view.View.{View}
 use Rattle.turn_lock.specs.declared.view.Phase.TheVariants.{Loaded}
-use Rattle.turn_lock.proofs.Totals.{set_at, total-set, total-at, total-le, times-append, is_one-same, is_one-other, once-more}
-use Rattle.turn_lock.proofs.Prefixes.{whole_begins, begins_within, begins_length, all_of_it}
+use Rattle.turn_lock.proofs.Totals.{set_at, total-set, total-at, times-append, is_one-same, is_one-other, once-more}
+use Rattle.turn_lock.proofs.Prefixes.{whole_begins, begins_within, begins_length}
 use Rattle.turn_lock.proofs.Keeping as keeping
 
 -- the positions that a pass owns once the history has gone on from `before` to `after` entries

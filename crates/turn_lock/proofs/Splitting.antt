@@ -1,15 +1,14 @@
 -- A pass that is cut in two keeps the rule.
-use Rattle.std.proofs.Common.{◌≡◌, ◌≢◌, ◌⊎◌, ⊎_elim, ℕ, ◌+◌, ◌-◌, ◌≤◌, ◌<◌, List, [], ◌∷◌, ◌++◌, length, set, Option, Some, None, IfSome, refl, sym, ap, ◌∙◌, subst, arith}
+use Rattle.std.proofs.Common.{◌≡◌, ⊎_elim, ℕ, ◌+◌, ◌-◌, ◌≤◌, ◌<◌, List, [], ◌∷◌, ◌++◌, length, set, Option, Some, None, IfSome, sym, ap, ◌∙◌, subst, arith}
 use mathlib.Core.Option.{some}
 use lib.ListN.{get_elem?}
 use Rattle.atomic_table.specs.Table.{State, Splits}
 use Rattle.atomic_table.proofs.Lists.{at_snoc}
 use Rattle.kv_model.specs.Opening.{Opening}
-use Rattle.kv_model.specs.declared.call.Entry.{Entry}
 use Rattle.turn_lock.specs.Books.{Book}
-use Rattle.turn_lock.specs.Totals.{total, times, once}
-use Rattle.turn_lock.specs.Views.{ALL, newcomer_beside, less_parts}
-use Rattle.turn_lock.specs.Rule.{out, last, live, has_all, busy, Knows, Fits, Kept}
+use Rattle.turn_lock.specs.Totals.{total, times}
+use Rattle.turn_lock.specs.Views.{newcomer_beside, less_parts}
+use Rattle.turn_lock.specs.Rule.{out, last, live, has_all, busy, Knows, Kept}
 use Rattle.turn_lock.specs.declared.view.View.{View}
 use Rattle.turn_lock.specs.declared.view.Phase.TheVariants.{Idle}
 use Rattle.turn_lock.proofs.Totals.{total-set, total-push}

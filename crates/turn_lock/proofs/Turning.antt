@@ -1,24 +1,23 @@
 -- The steps of one pass through its turn keep the rule.
-use Rattle.std.proofs.Common.{◌≡◌, ◌≢◌, ◌⊎◌, ℕ, zero, suc, ◌+◌, ◌-◌, ◌≤◌, ◌<◌, ◌^◌, eqb, List, [], ◌∷◌, length, set, Option, Some, None, refl, sym, ap, ◌∙◌, subst, arith, length-set, slice_index, slice_set}
+use Rattle.std.proofs.Common.{◌≡◌, ◌≢◌, ℕ, ◌≤◌, ◌<◌, eqb, List, [], ◌∷◌, length, set, Option, Some, refl, sym, ap, ◌∙◌, subst, arith, length-set, slice_index, slice_set}
 use mathlib.Core.Option.{some, none}
-use mathlib.Core.Option as maybe
 use mathlib.Core.List.{IsPrefix}
 use lib.ListN.{get_elem?}
 use prog.Atomic.{either}
-use Rattle.atomic_table.specs.Table.{State, Me, Act, keeps, takes, gives, Valid, stepped, carried_after, put_back, rest, Allows}
+use Rattle.atomic_table.specs.Table.{State, Act, keeps, takes, gives, Valid, stepped, carried_after, put_back, rest, Allows}
 use Rattle.atomic_table.proofs.Lists.{exchanged, set_here}
 use Rattle.kv_model.specs.Opening.{Opening}
 use Rattle.kv_model.specs.declared.call.Entry.{Entry}
 use Rattle.turn_lock.specs.Books.{Book}
-use Rattle.turn_lock.specs.Totals.{total, times}
-use Rattle.turn_lock.specs.Views.{ALL, missed, taken, loaded, settled, in_phase}
-use Rattle.turn_lock.specs.Rule.{out, last, live, has_all, busy, Knows, Fits, Kept}
-use Rattle.turn_lock.specs.Steps.{Seated, IsProper, Takes, Loads, Looks, Ends, Gets}
+use Rattle.turn_lock.specs.Totals.{total}
+use Rattle.turn_lock.specs.Views.{missed, taken, loaded, settled, in_phase}
+use Rattle.turn_lock.specs.Rule.{out, last, live, busy, Knows, Fits, Kept}
+use Rattle.turn_lock.specs.Steps.{Seated, Takes, Loads, Looks, Ends}
 use Rattle.turn_lock.specs.declared.view.View.{View}
 use Rattle.turn_lock.specs.declared.view.Phase.{Phase}
 use Rattle.turn_lock.specs.declared.view.Phase.TheVariants.{Idle, Taken, Loaded, Closing, Spent}
 use Rattle.turn_lock.proofs.Totals.{set_at, total-set, total-at}
-use Rattle.turn_lock.proofs.Prefixes.{whole_begins, nothing_begins, begins_length, shorter_begins, all_of_it}
+use Rattle.turn_lock.proofs.Prefixes.{whole_begins, nothing_begins, begins_length, shorter_begins}
 use Rattle.turn_lock.proofs.Keeping.{IsAsMuch, Home}
 use Rattle.turn_lock.proofs.Keeping as keeping
 

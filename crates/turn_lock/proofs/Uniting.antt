@@ -1,20 +1,20 @@
 -- Two passes that become one keep the rule.
-use Rattle.std.proofs.Common.{◌≡◌, ◌≢◌, ◌⊎◌, ⊎_elim, inl, inr, ℕ, zero, suc, Bool, true, false, cond, ◌+◌, ◌-◌, ◌≤◌, ◌<◌, ltb, List, [], ◌∷◌, ◌++◌, length, set, Option, Some, None, IfSome, refl, sym, ap, ◌∙◌, subst, arith, length-append}
+use Rattle.std.proofs.Common.{◌≡◌, ◌≢◌, ◌⊎◌, ⊎_elim, inl, inr, ℕ, zero, suc, Bool, true, false, cond, ◌+◌, ◌≤◌, ◌<◌, ltb, List, [], ◌∷◌, length, set, Option, Some, None, IfSome, refl, sym, ap, ◌∙◌, arith, length-append}
 use mathlib.Core.Option.{some}
 use mathlib.Core.List.{IsPrefix}
 use lib.ListN.{get_elem?}
 use Rattle.atomic_table.specs.Table.{State, Joins}
-use Rattle.atomic_table.proofs.Lists.{at_set, set_else}
+use Rattle.atomic_table.proofs.Lists.{set_else}
 use Rattle.kv_model.specs.Opening.{Opening}
 use Rattle.kv_model.specs.declared.call.Entry.{Entry}
 use Rattle.turn_lock.specs.Books.{Book}
-use Rattle.turn_lock.specs.Totals.{total, times, once}
-use Rattle.turn_lock.specs.Views.{ALL, spent, longer, shorter_of, both}
-use Rattle.turn_lock.specs.Rule.{out, last, live, has_all, busy, Knows, Fits, Kept}
+use Rattle.turn_lock.specs.Totals.{total, times}
+use Rattle.turn_lock.specs.Views.{spent, longer, both}
+use Rattle.turn_lock.specs.Rule.{out, last, has_all, busy, Knows, Kept}
 use Rattle.turn_lock.specs.declared.view.View.{View}
 use Rattle.turn_lock.specs.declared.view.Phase.TheVariants.{Idle}
 use Rattle.turn_lock.proofs.Totals.{set_at, total-set, total-at, times-append}
-use Rattle.turn_lock.proofs.Prefixes.{nothing_begins, begins_length, longer_is}
+use Rattle.turn_lock.proofs.Prefixes.{nothing_begins, longer_is}
 use Rattle.turn_lock.proofs.Keeping as keeping
 
 some_of : (a b : ℕ) → 0 < a + b → (0 < a) ⊎ (0 < b)

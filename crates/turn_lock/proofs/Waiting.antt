@@ -1,5 +1,5 @@
 -- A pass that waits for its turn.
-use Rattle.std.proofs.Common.{◌≡◌, ℕ, List, [], ◌∷◌, ◌++◌, refl, sym, ap, ◌∙◌, subst, append-nil, append_assoc}
+use Rattle.std.proofs.Common.{◌≡◌, ℕ, List, [], ◌∷◌, ◌++◌, sym, ap, ◌∙◌, subst, append-nil, append_assoc}
 use Rattle.atomic_table.specs.Seated.{TableId}
 use Rattle.kv_model.specs.Opening.{Opening}
 use Rattle.turn_lock.specs.Books.{Book}

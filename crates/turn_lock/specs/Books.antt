@@ -1,5 +1,5 @@
 -- What a contract sees of a value behind the turn.
-use Rattle.std.specs.Prelude.{ℕ, List, [], Option, None, Bool, false}
+use Rattle.std.specs.Prelude.{ℕ, List, [], Option, None, false}
 use Rattle.kv_model.specs.declared.call.Entry.{Entry}
 use Rattle.kv_model.specs.Opening.{Opening}
 

@@ -1,5 +1,5 @@
 -- The rule of a table of turns: what holds between any two steps of any of its passes.
-use Rattle.std.specs.Prelude.{◌≡◌, ◌≢◌, ℕ, ◌+◌, ◌-◌, ◌<◌, ◌≤◌, List, [], ◌∷◌, length, Option, Some, IfSome}
+use Rattle.std.specs.Prelude.{◌≡◌, ◌≢◌, ◌⊎◌, ℕ, ◌+◌, ◌-◌, ◌<◌, ◌≤◌, List, [], ◌∷◌, length, Option, Some, IfSome}
 use mathlib.Core.Option.{some}
 use mathlib.Core.List.{IsPrefix}
 use lib.ListN.{get_elem?}
@@ -56,6 +56,13 @@ pub record Knows (opening : Opening) (log : List Entry) (quitter : Option ℕ) (
   pub own : (p : ℕ) → 0 < times p v.own → p ≤ length v.seen
   pub marks : (who : ℕ) → 0 < times who v.marks → quitter ≡ Some who
 
+-- two passes of one table: they don't both have the turn, one has seen a beginning of what the other has, and no
+-- position is own of both
+pub record Agree (v w : View) : Type 0 where
+  pub turn : out v.phase + out w.phase ≤ 1
+  pub seen : IsPrefix v.seen w.seen ⊎ IsPrefix w.seen v.seen
+  pub own : (p : ℕ) → times p v.own + times p w.own ≤ 1
+
 module _ {S : Type 0} (stands_for : S → Opening → Type 0) (book : S → Book) where
   -- the value has this opening, history and first quitter
   pub record Fits (opening : Opening) (log : List Entry) (quitter : Option ℕ) (x : S) : Type 0 where
@@ -82,3 +89,7 @@ module _ {S : Type 0} (stands_for : S → Opening → Type 0) (book : S → Book
     pub parts : total (λ v. v.parts) s.views ≡ ALL
     -- a first quitter is a mark of some view
     pub marked : IfSome quitter (λ who. 0 < total (λ v. times who v.marks) s.views)
+
+  -- so it is of any two passes, whatever was done at the table so far
+  abbrev pub PassesAgree : Type 0
+  PassesAgree = (s : State (Option S) View) → Kept s → (i j : ℕ) (v w : View) → i ≢ j → get_elem? s.views i ≡ some v → get_elem? s.views j ≡ some w → Agree v w

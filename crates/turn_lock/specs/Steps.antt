@@ -1,5 +1,5 @@
 -- What each step on the table tells the seat that makes it. A step tells of the seat before, what it found, and the seat after.
-use Rattle.std.specs.Prelude.{◌≡◌, ◌≢◌, ◌⊎◌, ℕ, ◌+◌, ◌<◌, ◌≤◌, List, [], ◌∷◌, length, Option, Some, None}
+use Rattle.std.specs.Prelude.{◌≡◌, ◌≢◌, ◌⊎◌, ℕ, ◌+◌, ◌<◌, ◌≤◌, [], ◌∷◌, length, Option, Some, None}
 use mathlib.Core.List.{IsPrefix}
 use Rattle.atomic_table.specs.Table.{Me}
 use Rattle.kv_model.specs.Opening.{Opening}
@@ -8,7 +8,6 @@ use Rattle.turn_lock.specs.Totals.{times, once}
 use Rattle.turn_lock.specs.Views.{ALL, missed, taken, loaded, noted, settled, in_phase}
 use Rattle.turn_lock.specs.declared.view.View.{View}
 use Rattle.turn_lock.specs.declared.view.Phase.{Phase}
-use Rattle.turn_lock.specs.declared.view.Phase.TheVariants.{Idle, Closing}
 
 -- a pass has at most all parts, and owns at most as many positions; each is its own once, and stands in what it has
 -- seen

@@ -1,13 +1,11 @@
 -- What a pass knows, and how the calls change it.
-use Rattle.std.specs.Prelude.{◌≡◌, ℕ, ◌+◌, ◌-◌, ◌<◌, ◌≤◌, ◌⊎◌, ltb, List, [], ◌∷◌, ◌++◌, length, Option, Some, None, if◌then◌else◌}
-use mathlib.Core.List.{IsPrefix}
+use Rattle.std.specs.Prelude.{ℕ, ◌+◌, ◌-◌, ltb, List, [], ◌∷◌, ◌++◌, length, Option, Some, None, if◌then◌else◌}
 use Rattle.kv_model.specs.declared.call.Entry.{Entry}
 use Rattle.kv_model.specs.Opening.{Opening}
 use Rattle.turn_lock.specs.Books.{Book, no_opening}
-use Rattle.turn_lock.specs.Totals.{times, once}
 use Rattle.turn_lock.specs.declared.view.View.{View}
 use Rattle.turn_lock.specs.declared.view.Phase.{Phase}
-use Rattle.turn_lock.specs.declared.view.Phase.TheVariants.{Idle, Taken, Loaded, Closing, Spent}
+use Rattle.turn_lock.specs.declared.view.Phase.TheVariants.{Idle, Taken, Loaded, Spent}
 
 -- all parts together
 abbrev pub ALL : ℕ

@@ -4,6 +4,7 @@
 
 mod booked;
 mod held;
+mod laws;
 mod pass;
 mod plays;
 mod sharing;
@@ -13,6 +14,7 @@ mod view;
 
 pub use booked::Booked;
 pub use held::{Held, Taken};
+pub use laws::passes_agree;
 pub use pass::Pass;
 pub use table::Turns;
 

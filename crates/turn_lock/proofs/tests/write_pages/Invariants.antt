@@ -1,4 +1,4 @@
-use Rattle.std.proofs.Common.{◌≡◌, ◌+◌, ◌-◌, ◌≤◌, length}
+use Rattle.std.proofs.Common.{◌+◌, ◌-◌, ◌≤◌, length}
 use Rattle.turn_lock.specs.Tables.{table_of}
 use Rattle.turn_lock.specs.Passes.{view_of, IsIdle}
 use Rattle.turn_lock.proofs.tests.write_pages.Given as goal

@@ -1,4 +1,4 @@
-use Rattle.std.proofs.Common.{rules, ◌≡◌, Some, None, IsSome, refl, sym, ap, ◌∙◌, subst}
+use Rattle.std.proofs.Common.{◌≡◌, Some, IsSome, refl, sym, ◌∙◌, subst}
 use mathlib.Core.Option.{some-injective}
 use Rattle.turn_lock.specs.Passes.{HasClosed}
 use Rattle.turn_lock.proofs.Closing.{closes}

@@ -1,4 +1,4 @@
-use Rattle.std.proofs.Common.{rules, ◌≡◌, [], ◌∷◌, ◌++◌, List, Option, Some, None, refl, sym, ap, ◌∙◌, subst, arith}
+use Rattle.std.proofs.Common.{rules, ◌≡◌, [], ◌∷◌, List, Option, Some, sym, subst}
 use Rattle.atomic_table.specs.Table.{opening}
 use Rattle.turn_lock.specs.Rule.{Kept}
 use Rattle.turn_lock.specs.Views.{first_view}

@@ -1,4 +1,4 @@
-use Rattle.std.proofs.Common.{rules, ◌≡◌, ◌∙◌, ap, sym}
+use Rattle.std.proofs.Common.{rules, ◌∙◌, ap}
 use Rattle.turn_lock.proofs.Turning.{looks_on}
 use Rattle.turn_lock.proofs.Uniting.{joins_passes}
 use Rattle.turn_lock.proofs.table.Turns.unite.Goals as goal
