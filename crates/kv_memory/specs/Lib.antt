@@ -1,1 +1,4 @@
+pub mod EntriesState
+pub mod EntryOf
+pub mod Places
 pub mod Silent

@@ -2,6 +2,8 @@
 //! tells nothing and fails as it is told to. And callers of any stores.
 #![tactic(auto)]
 
+mod entries;
 mod silent;
 
+pub use entries::{Entries, Item};
 pub use silent::SilentStore;
