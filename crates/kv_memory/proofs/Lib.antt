@@ -1,2 +1,4 @@
 pub mod EntryLemmas
+pub mod GoingLemmas
 pub mod SortedLemmas
+pub mod WalkLemmas

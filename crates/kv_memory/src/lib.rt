@@ -2,8 +2,14 @@
 //! tells nothing and fails as it is told to. And callers of any stores.
 #![tactic(auto)]
 
+mod cursor;
 mod entries;
+mod going;
 mod silent;
+mod walk;
 
+pub use cursor::Cursor;
 pub use entries::{Entries, Item};
+pub use going::run_calls;
 pub use silent::SilentStore;
+pub use walk::{bytes_used, hash_of, is_below, least_of, record_bytes};
