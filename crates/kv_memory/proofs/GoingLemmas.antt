@@ -21,7 +21,7 @@ use Rattle.kv_model.specs.Performs.{Performs, reply_or}
 use Rattle.kv_model.proofs.HistoryLemmas.{AreNumbered-push, runs_more}
 use Rattle.kv_model.proofs.PerformLemmas.{Keeps-trans}
 use Rattle.journal_core.specs.JournalState.{next_entry}
-use Rattle.kv_memory.specs.Going.{HasGoneOn, Seen, seen}
+use Rattle.kv_memory.specs.Going.{HasGoneOn, IsHistory, Seen, seen}
 
 some_of : {X : Type 0} (o : Option X) → is_some o ≡ true → (x : X) × (o ≡ Some x)
 some_of None is = absurd (true≢false (sym is))
@@ -212,3 +212,14 @@ module _ (rules_by : Constants → Rules) (first mid last : Seen) (lines more : 
   pub as_many : HasGoneOn rules_by first mid lines → length mid.entries ≡ length first.entries + length lines
   as_many gone = ap length gone.entries ∙ length-append first.entries gone.more
       ∙ ap (λ (n : ℕ). length first.entries + n) (sym (length-map gone.more line_of) ∙ ap length gone.lines_are)
+
+-- ---- from an empty journal on
+
+pub history : (rules_by : Constants → Rules) (old new : Seen) (lines : List Line) → HasGoneOn rules_by old new lines → IsHistory rules_by old new
+history rules_by old new lines gone empty before told after later =
+    let all : gone.more ≡ new.entries = sym (gone.entries ∙ ap (λ (l : List Entry). l ++ gone.more) empty) in
+    let first : AreNumbered [] gone.more = subst (λ (l : List Entry). AreNumbered l gone.more) empty gone.numbered in
+    record {
+      numbered = subst (AreNumbered []) all first;
+      runs = subst (λ (l : List Entry). Runs (rules_by old.store.known.constants) before l after) all (gone.runs before told after later);
+    }

@@ -1,7 +1,7 @@
 // Runs of calls on any store.
 ghost use Rattle.std.specs.Prelude.{◌≡◌, ◌≢◌, ◌+◌, ◌<◌, ℕ, ◌∷◌, [], All, length, take, OnOk, OnErr, IfOk};
 ghost use Rattle.kv_model.specs.Orders.{Line};
-ghost use Rattle.kv_memory.specs.Going.{HasGoneOn, seen};
+ghost use Rattle.kv_memory.specs.Going.{HasGoneOn, IsHistory, seen};
 
 use journal_core::Journal;
 use kv_model::{Call, Kv, NoMemory, perform};
@@ -53,8 +53,11 @@ pub fn run_calls<K: Kv>(
     requires numbers { length journal.old.entries + length lines.now < 4294967296 }
     ensures ran { OnOk result (HasGoneOn K.rules_by (seen (K.state store.old) journal.old.entries)
         (seen (K.state store.new) journal.new.entries) lines.now) }
-    ensures stopped { OnErr result ((n : ℕ) × HasGoneOn K.rules_by (seen (K.state store.old) journal.old.entries)
+    ensures stopped { OnErr result ((n : ℕ) × HasGoneOn K.rules_by
+        (seen (K.state store.old) journal.old.entries)
         (seen (K.state store.new) journal.new.entries) (take n lines.now)) }
+    ensures history { IsHistory K.rules_by (seen (K.state store.old) journal.old.entries)
+        (seen (K.state store.new) journal.new.entries) }
 {
     for line in lines {
         run_one(alloc, store, line.0, &line.1, journal)?;
