@@ -1,0 +1,5 @@
+pub mod EntryLemmas
+pub mod GoingLemmas
+pub mod IteratorMapLemmas
+pub mod SortedLemmas
+pub mod WalkLemmas

@@ -1,0 +1,9 @@
+pub mod Cursors
+pub mod EntriesState
+pub mod EntryOf
+pub mod Going
+pub mod IteratorCode
+pub mod Pairs
+pub mod Places
+pub mod Silent
+pub mod SlotOf

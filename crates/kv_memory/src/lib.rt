@@ -1,0 +1,22 @@
+//! Stores in memory: one that tells its state, the plain program against which other stores are compared, and one that
+//! tells nothing and fails as it is told to. And callers of any stores.
+#![tactic(auto)]
+
+mod cursor;
+mod entries;
+mod going;
+mod iterators;
+mod pair;
+mod silent;
+mod walk;
+
+pub use cursor::Cursor;
+pub use entries::{Entries, Item};
+pub use going::run_calls;
+pub use iterators::{Iterators, Slot};
+pub use pair::{PairRefusal, set_in_both};
+pub use silent::SilentStore;
+pub use walk::{bytes_used, hash_of, is_below, least_of, record_bytes};
+
+#[cfg(test)]
+mod tests;
