@@ -79,9 +79,9 @@ pub fn torn_master_is_whole_or_unseen()
         ⊎ FirstBreak g before after torn (base_of g k) }
 {}
 
-/// At each moment of the write of a record where the active area ends the image holds what it held, or
-/// that with the record behind it, as far as chance goes; and the first record that is there by chance
-/// stands at the first byte of the call that was cut off.
+/// At each moment of the write of a record where the active area ends the image holds what it held,
+/// or that with the record behind it, as far as chance goes; and the first record that is there by
+/// chance stands at the first byte of the call that was cut off.
 pub fn record_write_is_whole_or_unseen()
     ensures { (g : Geometry) (image : List ℕ) (c : Contents) (k : ℕ) (r : Write) → IsValid g
         → length image ≡ size_of g → MayAppend g image c k r
@@ -90,9 +90,9 @@ pub fn record_write_is_whole_or_unseen()
         → CutStrictly g (HoldsOneOf g c r) call now }
 {}
 
-/// At each moment at which the first area of an image without a valid area is erased, unit by unit and in
-/// ascending order, the image has no valid area, as far as chance goes; and the first record that is
-/// there by chance stands at the first byte of the call that was cut off.
+/// At each moment at which the first area of an image without a valid area is erased, unit by unit
+/// and in ascending order, the image has no valid area, as far as chance goes; and the first record
+/// that is there by chance stands at the first byte of the call that was cut off.
 pub fn erased_area_stays_unseen()
     ensures { (g : Geometry) (image : List ℕ) → IsValid g → length image ≡ size_of g
         → Holds g image no_contents → (call : Option DeviceCall) (now : List ℕ)

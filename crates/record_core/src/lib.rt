@@ -1,12 +1,14 @@
 //! Records on flash: their CRC, sizes and headers, and how they are written to a device.
 //!
-//! A record is a header of 24 bytes in whole program units, and behind it its payload, the key and then the value, in
-//! whole program units too; padding is 0xFF. An area begins with a master record, which has a version; the area's
-//! records follow, each directly behind the one before. The definitions in specs/ say which bytes are a record, what an
-//! image of two areas holds, and the map to which it mounts. Sizes and places are in bytes. No call takes memory.
+//! A record is a header of 24 bytes in whole program units, and behind it its payload, the key and
+//! then the value, in whole program units too; padding is 0xFF. An area begins with a master
+//! record, which has a version; the area's records follow, each directly behind the one before. The
+//! definitions in specs/ say which bytes are a record, what an image of two areas holds, and the
+//! map to which it mounts. Sizes and places are in bytes. No call takes memory.
 //!
-//! A reader answers a record or a master record exactly where one stands, whatever bytes the device has: it tests the
-//! header, the key, the CRC and each byte of padding. A value is read in pieces, so a small buffer serves each size.
+//! A reader answers a record or a master record exactly where one stands, whatever bytes the device
+//! has: it tests the header, the key, the CRC and each byte of padding. A value is read in pieces,
+//! so a small buffer serves each size.
 #![tactic(auto)]
 
 mod checksum;
