@@ -31,13 +31,15 @@ pub struct Area {
 impl Area {
     ghost use Rattle.area_log.specs.Areas.{end_of, IsAreaOf, IsIn, IsRange};
 
-    /// Programs a record from `at` on, a multiple of the program unit: the key and the value, and then the header. The
-    /// answer is the place behind the record. `WriteFault` comes only where the count of write faults rose. `flags` is
-    /// 0, 1 (write-once) or 2^31 (a remove, whose value is empty); a value has at most 65,592 bytes; the record's range
-    /// is erased and lies in the area. `work` has at least 64 bytes and at least a program unit.
+    /// Programs a record from `at` on, a multiple of the program unit: the key and the value, and
+    /// then the header. The answer is the place behind the record. `WriteFault` comes only where
+    /// the count of write faults rose. `flags` is 0, 1 (write-once) or 2^31 (a remove, whose value
+    /// is empty); a value has at most 65,592 bytes; the record's range is erased and lies in the
+    /// area. `work` has at least 64 bytes and at least a program unit.
     ///
-    /// At each moment of the call, and after a fault, the image stands outside the record's range, and the
-    /// payload is programmed in ascending order, each unit once, and the header when it is whole.
+    /// At each moment of the call, and after a fault, the image stands outside the record's range,
+    /// and the payload is programmed in ascending order, each unit once, and the header when it is
+    /// whole.
     pub fn append_record<F: Flash>(
         &self,
         flash: &mut F,
@@ -77,8 +79,9 @@ impl Area {
         Ok(at + size)
     }
 
-    /// Whether every byte from `at` to the area's end is 0xFF. `ReadFault` comes only where the count of read faults
-    /// rose. `at` is a place of the area or its end, and `work` has at least 64 bytes and at least a program unit.
+    /// Whether every byte from `at` to the area's end is 0xFF. `ReadFault` comes only where the
+    /// count of read faults rose. `at` is a place of the area or its end, and `work` has at least
+    /// 64 bytes and at least a program unit.
     pub fn tail_is_erased<F: Flash>(
         &self,
         flash: &mut F,

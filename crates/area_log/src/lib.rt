@@ -1,8 +1,9 @@
 //! One area of a device as a log of records behind a master record.
 //!
-//! An area begins with the room of its master record; its records follow, each directly behind the one before, up to
-//! the first place that has none. An area appends a record, reads the value of one, tells whether what is behind a
-//! place is erased, and walks over all of its records. Places and sizes are in bytes. No call takes memory.
+//! An area begins with the room of its master record; its records follow, each directly behind the
+//! one before, up to the first place that has none. An area appends a record, reads the value of
+//! one, tells whether what is behind a place is erased, and walks over all of its records. Places
+//! and sizes are in bytes. No call takes memory.
 #![tactic(auto)]
 
 mod area;

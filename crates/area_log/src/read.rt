@@ -15,8 +15,8 @@ use record_core::{
     HEADER_SIZE, Header, crc_of_front, crc_of_piece, crc_of_range, padded_size, read_header_at,
 };
 
-// Reads the value's bytes from `skipped` on into the whole of `out`, and checks the CRC of the whole
-// record, whose payload begins at `place`. Each byte is read once.
+// Reads the value's bytes from `skipped` on into the whole of `out`, and checks the CRC of the
+// whole record, whose payload begins at `place`. Each byte is read once.
 fn read_checked<F: Flash>(
     flash: &mut F,
     place: u32,
@@ -52,8 +52,8 @@ fn read_checked<F: Flash>(
     Ok(())
 }
 
-// Reads as much of the value from the offset on as there is and fits, once the record's CRC was found
-// right. Its payload begins at `place`.
+// Reads as much of the value from the offset on as there is and fits, once the record's CRC was
+// found right. Its payload begins at `place`.
 fn read_value<F: Flash>(
     flash: &mut F,
     place: u32,
@@ -112,17 +112,18 @@ impl Area {
         read_value(flash, place, &header, offset, buf, work)
     }
 
-    /// Reads the value of the record at `at` from `offset` on into `buf`, as many bytes as there are and
-    /// fit, with zeros behind them. The answer has the flags, the size of the whole value, and how many
-    /// bytes were read. After a refusal each byte of `buf` is 0. Nothing is asked of the bytes at `at`.
+    /// Reads the value of the record at `at` from `offset` on into `buf`, as many bytes as there
+    /// are and fit, with zeros behind them. The answer has the flags, the size of the whole value,
+    /// and how many bytes were read. After a refusal each byte of `buf` is 0. Nothing is asked of
+    /// the bytes at `at`.
     ///
-    /// `Corrupt` comes exactly where the header breaks a rule or its record would end behind the area,
-    /// with the CRC that stands there and its complement, and where the CRC isn't that of the record,
-    /// with the one that stands there and the one of what was read. `InvalidSize` comes exactly where
-    /// the CRC is right and the offset is above the size of the value. The bytes that are given are those
-    /// whose CRC was checked. `ReadFault` comes only where the count of read faults rose, and on no steady
-    /// device. The header at `at` lies in the area, and `work` has at least 64 bytes and at least a
-    /// program unit.
+    /// `Corrupt` comes exactly where the header breaks a rule or its record would end behind the
+    /// area, with the CRC that stands there and its complement, and where the CRC isn't that of the
+    /// record, with the one that stands there and the one of what was read. `InvalidSize` comes
+    /// exactly where the CRC is right and the offset is above the size of the value. The bytes that
+    /// are given are those whose CRC was checked. `ReadFault` comes only where the count of read
+    /// faults rose, and on no steady device. The header at `at` lies in the area, and `work` has at
+    /// least 64 bytes and at least a program unit.
     pub fn read_at<F: Flash>(
         &self,
         flash: &mut F,

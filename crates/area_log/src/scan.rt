@@ -17,8 +17,8 @@ const MASTER_KEY_SIZE: u32 = 4;
 
 const MASTER_VALUE_SIZE: u32 = 8;
 
-/// What a walk shows the records of an area to. What its contract may speak of is the `area`, which no call changes,
-/// the lists of records that it `stands_for`, and whether it `ran_out` of memory.
+/// What a walk shows the records of an area to. What its contract may speak of is the `area`, which
+/// no call changes, the lists of records that it `stands_for`, and whether it `ran_out` of memory.
 pub trait Visitor {
     ghost area: { Self → Area };
 
@@ -26,8 +26,9 @@ pub trait Visitor {
 
     ghost ran_out: { Self → Type 0 };
 
-    /// Takes in one record more: its place, its key and its header. It may read the device, and makes no program and
-    /// no erase. `ReadFault` comes only where the count of read faults rose, and `Memory` only where memory ran out.
+    /// Takes in one record more: its place, its key and its header. It may read the device, and
+    /// makes no program and no erase. `ReadFault` comes only where the count of read faults rose,
+    /// and `Memory` only where memory ran out.
     fn found<F: Flash>(
         &mut self,
         flash: &mut F,
@@ -59,10 +60,11 @@ fn any_key() -> Key {
 }
 
 impl Area {
-    /// Shows the records behind the area's master record to the visitor, one after another, up to the first place that
-    /// has none inside the area. The answer is the place behind the last one. It refuses with what the visitor refused,
-    /// and with `ReadFault` only where the count of read faults rose. The visitor has this area and stands for no
-    /// records. `work` has at least 64 bytes and at least a program unit.
+    /// Shows the records behind the area's master record to the visitor, one after another, up to
+    /// the first place that has none inside the area. The answer is the place behind the last one.
+    /// It refuses with what the visitor refused, and with `ReadFault` only where the count of read
+    /// faults rose. The visitor has this area and stands for no records. `work` has at least 64
+    /// bytes and at least a program unit.
     pub fn scan<F: Flash, V: Visitor>(
         &self,
         flash: &mut F,

@@ -37,3 +37,7 @@ pub record MayAppend (g : Geometry) (image : List ℕ) (c : Contents) (k : ℕ) 
 -- the image holds these contents, or these with the record behind them
 abbrev pub HoldsOneOf : Geometry → Contents → Write → List ℕ → Type 0
 HoldsOneOf g c r image = Holds g image c ⊎ Holds g image (with_record g.prog r c)
+
+-- what an image without a valid area holds
+abbrev pub no_contents : Contents
+no_contents = record { first = None; second = None; records = []; end = 0 }

@@ -288,9 +288,9 @@ fn after_byte(crc: u32, byte: u8) -> u32
 /// What a record's CRC starts at.
 pub const CRC_START: u32 = 0xFFFF_FFFF;
 
-/// The CRC of the bytes, going on from `start`: the reflected one of 32 bits with the polynomial 0xEDB88320, with no
-/// exclusive-or at the end. A record's CRC starts at 0xFFFF_FFFF, and a list in pieces goes on from the CRC of the
-/// piece before.
+/// The CRC of the bytes, going on from `start`: the reflected one of 32 bits with the polynomial
+/// 0xEDB88320, with no exclusive-or at the end. A record's CRC starts at 0xFFFF_FFFF, and a list in
+/// pieces goes on from the CRC of the piece before.
 pub fn crc(start: u32, bytes: &[u8]) -> u32
     ensures { result ≡ crc_from start bytes.now }
 {

@@ -10,7 +10,8 @@ ghost use Rattle.record_core.specs.Chance.{FirstBreak, NoChance};
 ghost use Rattle.flash_core.specs.State.{DeviceCall};
 ghost use Rattle.kv_model.specs.Keys.{is_key};
 ghost use Rattle.kv_model.specs.Write.{Write};
-ghost use Rattle.record_core.specs.CutMoments.{CutStrictly, HoldsOneOf, MayAppend};
+ghost use Rattle.flash_core.specs.Erases.{ErasesUnits};
+ghost use Rattle.record_core.specs.CutMoments.{CutStrictly, HoldsOneOf, MayAppend, no_contents};
 ghost use Rattle.record_core.specs.Header.{IsHeader};
 ghost use Rattle.record_core.specs.Written.{AppendsRecord};
 ghost use Rattle.record_core.specs.Cuts.{IsApart, IsHeaderCall, IsInArea, IsMasterCall, active_of, base_of, with_version};
@@ -78,13 +79,23 @@ pub fn torn_master_is_whole_or_unseen()
         ⊎ FirstBreak g before after torn (base_of g k) }
 {}
 
-/// At each moment of the write of a record where the active area ends the image holds what it held, or
-/// that with the record behind it, as far as chance goes; and the first record that is there by chance
-/// stands at the first byte of the call that was cut off.
+/// At each moment of the write of a record where the active area ends the image holds what it held,
+/// or that with the record behind it, as far as chance goes; and the first record that is there by
+/// chance stands at the first byte of the call that was cut off.
 pub fn record_write_is_whole_or_unseen()
     ensures { (g : Geometry) (image : List ℕ) (c : Contents) (k : ℕ) (r : Write) → IsValid g
         → length image ≡ size_of g → MayAppend g image c k r
         → IsTrue (is_key r.key) → IsHeader r.flags (length r.key) (length r.value)
         → (call : Option DeviceCall) (now : List ℕ) → AppendsRecord g.prog c.end r image call now
         → CutStrictly g (HoldsOneOf g c r) call now }
+{}
+
+/// At each moment at which the first area of an image without a valid area is erased, unit by unit
+/// and in ascending order, the image has no valid area, as far as chance goes; and the first record
+/// that is there by chance stands at the first byte of the call that was cut off.
+pub fn erased_area_stays_unseen()
+    ensures { (g : Geometry) (image : List ℕ) → IsValid g → length image ≡ size_of g
+        → Holds g image no_contents → (call : Option DeviceCall) (now : List ℕ)
+        → ErasesUnits g 0 g.units_per_area image call now
+        → CutStrictly g (λ left. Holds g left no_contents) call now }
 {}

@@ -42,8 +42,8 @@ pub struct Header {
 }
 
 impl Header {
-    /// Whether the sizes and flags are those that a header may have: a key of 1 to 128 bytes, a value of at most
-    /// 65,592, and none in a remove.
+    /// Whether the sizes and flags are those that a header may have: a key of 1 to 128 bytes, a
+    /// value of at most 65,592, and none in a remove.
     pub fn is_valid(&self) -> bool
         ensures { IsTrue result ↔ IsValid self.now }
     {
@@ -96,8 +96,9 @@ pub fn crc_of_front(header: &Header) -> u32
     crc(CRC_START, &header.to_bytes()[..FRONT_SIZE])
 }
 
-/// Writes the header of a record of this key and of a value of `value_size` bytes, with the flags 0, 1 (write-once) or
-/// 2^31 (a remove, whose value is empty). `crc` is that of the header's first 20 bytes, the key and the value.
+/// Writes the header of a record of this key and of a value of `value_size` bytes, with the flags
+/// 0, 1 (write-once) or 2^31 (a remove, whose value is empty). `crc` is that of the header's first
+/// 20 bytes, the key and the value.
 pub fn write_header(out: &mut [u8; 24], key: &Key, value_size: u32, flags: u32, crc: u32)
     requires { IsHeader flags (length key.now) value_size }
     ensures { out.new ≡ header_bytes (record { flags = flags; key_size = length key.now; value_size = value_size; crc = crc }) }
@@ -135,8 +136,8 @@ fn fields_of(bytes: &[u8; 24]) -> Header
     }
 }
 
-/// The header that the bytes spell. None comes exactly where one of the rules on the first 20 bytes fails; nothing is
-/// said of the CRC.
+/// The header that the bytes spell. None comes exactly where one of the rules on the first 20 bytes
+/// fails; nothing is said of the CRC.
 pub fn read_header(bytes: &[u8; 24]) -> Option<Header>
     ensures found { IfSome result (λ header. IsValid header × (bytes.now ≡ header_bytes header)) }
     ensures some { (header : Header) → IsValid header → bytes.now ≡ header_bytes header → IsSome result }

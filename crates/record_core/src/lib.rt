@@ -1,12 +1,14 @@
 //! Records on flash: their CRC, sizes and headers, and how they are written to a device.
 //!
-//! A record is a header of 24 bytes in whole program units, and behind it its payload, the key and then the value, in
-//! whole program units too; padding is 0xFF. An area begins with a master record, which has a version; the area's
-//! records follow, each directly behind the one before. The definitions in specs/ say which bytes are a record, what an
-//! image of two areas holds, and the map to which it mounts. Sizes and places are in bytes. No call takes memory.
+//! A record is a header of 24 bytes in whole program units, and behind it its payload, the key and
+//! then the value, in whole program units too; padding is 0xFF. An area begins with a master
+//! record, which has a version; the area's records follow, each directly behind the one before. The
+//! definitions in specs/ say which bytes are a record, what an image of two areas holds, and the
+//! map to which it mounts. Sizes and places are in bytes. No call takes memory.
 //!
-//! A reader answers a record or a master record exactly where one stands, whatever bytes the device has: it tests the
-//! header, the key, the CRC and each byte of padding. A value is read in pieces, so a small buffer serves each size.
+//! A reader answers a record or a master record exactly where one stands, whatever bytes the device
+//! has: it tests the header, the key, the CRC and each byte of padding. A value is read in pieces,
+//! so a small buffer serves each size.
 #![tactic(auto)]
 
 mod checksum;
@@ -22,8 +24,8 @@ mod writer;
 
 pub use checksum::{CRC_START, crc, hash_of};
 pub use cuts::{
-    chance_or_first_break, contents_survive_elsewhere, every_image_mounts,
-    record_write_is_whole_or_unseen, torn_header_is_whole_or_unseen,
+    chance_or_first_break, contents_survive_elsewhere, erased_area_stays_unseen,
+    every_image_mounts, record_write_is_whole_or_unseen, torn_header_is_whole_or_unseen,
     torn_master_is_whole_or_unseen,
 };
 pub use header::{HEADER_SIZE, Header, REMOVE, crc_of_front, read_header, write_header};

@@ -1,4 +1,5 @@
-//! Look-ups at a place of a device: the header of the record there, and its key, whatever bytes stand there.
+//! Look-ups at a place of a device: the header of the record there, and its key, whatever bytes
+//! stand there.
 ghost use Rattle.std.specs.Prelude.{◌≡◌, ◌⊎◌, ◌+◌, ◌-◌, ◌≤◌, ℕ, List, length, IsTrue, IfOk, IfErr, MatchOption, MatchResult};
 ghost use Rattle.std.specs.Int.{is_power_of_two};
 ghost use Rattle.flash_core.specs.Calls.{OnlyReads};
@@ -14,8 +15,8 @@ use crate::{HEADER_SIZE, Header, padded_size};
 use flash_core::Flash;
 use kv_model::{Key, KvError};
 
-/// What is answered of a header that breaks a rule, or whose record would end too far: `Corrupt` with
-/// the CRC in the header and the complement of that.
+/// What is answered of a header that breaks a rule, or whose record would end too far: `Corrupt`
+/// with the CRC in the header and the complement of that.
 pub fn broken_header(bytes: &[u8; 24]) -> KvError
     ensures { result ≡ broken_answer bytes.now }
 {
@@ -67,9 +68,10 @@ fn read_head_at<F: Flash>(flash: &mut F, place: u32, end: u32) -> Result<Head, K
 }
 
 /// The header at `place`, of a record that ends at or before `end`, whatever stands behind it.
-/// `Corrupt` comes exactly where the bytes there break a rule of headers or the record would end behind
-/// `end`, with the CRC that stands there and its complement; `ReadFault` comes only where the device's
-/// count of read faults rose. The header itself lies before `end`, and `end` in the image.
+/// `Corrupt` comes exactly where the bytes there break a rule of headers or the record would end
+/// behind `end`, with the CRC that stands there and its complement; `ReadFault` comes only where
+/// the device's count of read faults rose. The header itself lies before `end`, and `end` in the
+/// image.
 pub fn read_header_at<F: Flash>(flash: &mut F, place: u32, end: u32) -> Result<Header, KvError>
     requires valid { IsValid (F.state flash.old).geometry }
     requires header { place + 24 ≤ end }
@@ -100,8 +102,8 @@ fn read_name<F: Flash>(flash: &mut F, place: u32, size: u16) -> Result<Option<Ke
 }
 
 /// The key of the record at `place` that ends at or before `end`. `Corrupt` comes as from
-/// `read_header_at`, and where what stands behind the header is no key; `ReadFault` comes only where the
-/// device's count of read faults rose. The CRC is not looked at.
+/// `read_header_at`, and where what stands behind the header is no key; `ReadFault` comes only
+/// where the device's count of read faults rose. The CRC is not looked at.
 pub fn read_key_at<F: Flash>(flash: &mut F, place: u32, end: u32) -> Result<Key, KvError>
     requires valid { IsValid (F.state flash.old).geometry }
     requires header { place + 24 ≤ end }

@@ -13,8 +13,8 @@ use kv_model::KvError;
 
 const ERASED: u8 = 0xFF;
 
-/// Reads the bytes from `place` on into the whole of `buf`. `ReadFault` comes only where the device's count of read
-/// faults rose.
+/// Reads the bytes from `place` on into the whole of `buf`. `ReadFault` comes only where the
+/// device's count of read faults rose.
 pub fn read_part<F: Flash>(flash: &mut F, place: u32, buf: &mut [u8]) -> Result<(), KvError>
     requires { place + length buf.old ≤ size_of (F.state flash.old).geometry }
     ensures reads { HasRead (F.state flash.old) (F.state flash.new) result }
@@ -26,8 +26,8 @@ pub fn read_part<F: Flash>(flash: &mut F, place: u32, buf: &mut [u8]) -> Result<
     }
 }
 
-/// Reads the bytes from `place` on into the whole of `piece`, and gives their CRC, going on from `start`. `ReadFault`
-/// comes only where the device's count of read faults rose.
+/// Reads the bytes from `place` on into the whole of `piece`, and gives their CRC, going on from
+/// `start`. `ReadFault` comes only where the device's count of read faults rose.
 pub fn crc_of_piece<F: Flash>(
     flash: &mut F,
     place: u32,
@@ -43,8 +43,8 @@ pub fn crc_of_piece<F: Flash>(
     Ok(crc(start, piece))
 }
 
-/// The CRC of `size` bytes from `place` on, going on from `start`, read in pieces that `work` has room
-/// for, each once. `ReadFault` comes only where the device's count of read faults rose.
+/// The CRC of `size` bytes from `place` on, going on from `start`, read in pieces that `work` has
+/// room for, each once. `ReadFault` comes only where the device's count of read faults rose.
 pub fn crc_of_range<F: Flash>(
     flash: &mut F,
     place: u32,

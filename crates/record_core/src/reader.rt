@@ -171,11 +171,11 @@ fn is_whole<F: Flash>(
     is_padded(flash, place, key_size + header.value_size, work)
 }
 
-/// Reads the record that stands at `place` and ends at or before `end`: its header is answered, and its key put into
-/// `key`. None comes exactly where no record does so, whatever bytes stand there, and then `key` may have changed.
-/// `ReadFault` comes only where the device's count of read faults rose. `place` is at most `end`, `end` at most the
-/// size of the device, and `work` has at least 64 bytes and at least a program unit. The value is read in pieces that
-/// `work` has room for.
+/// Reads the record that stands at `place` and ends at or before `end`: its header is answered, and
+/// its key put into `key`. None comes exactly where no record does so, whatever bytes stand there,
+/// and then `key` may have changed. `ReadFault` comes only where the device's count of read faults
+/// rose. `place` is at most `end`, `end` at most the size of the device, and `work` has at least 64
+/// bytes and at least a program unit. The value is read in pieces that `work` has room for.
 pub fn read_record<F: Flash>(
     flash: &mut F,
     place: u32,
@@ -232,7 +232,8 @@ fn payload_of_master(version: u16) -> [u8; 12]
     payload
 }
 
-// The version of the master record that has this header and payload. None comes exactly where none has.
+// The version of the master record that has this header and payload. None comes exactly where none
+// has.
 fn version_of(header: &[u8; 24], payload: &[u8; 12]) -> Option<u16>
     ensures header { IfSome result (λ version. header.now ≡ header_bytes (header_of 0 master_key (master_value version))) }
     ensures payload { IfSome result (λ version. payload.now ≡ master_key ++ master_value version) }
@@ -249,9 +250,9 @@ fn version_of(header: &[u8; 24], payload: &[u8; 12]) -> Option<u16>
     }
 }
 
-/// The version of the master record at `area`, the place of an area's first byte. None comes exactly where no master
-/// record stands there. `ReadFault` comes only where the device's count of read faults rose. `work` has at least 64
-/// bytes and at least a program unit.
+/// The version of the master record at `area`, the place of an area's first byte. None comes
+/// exactly where no master record stands there. `ReadFault` comes only where the device's count of
+/// read faults rose. `work` has at least 64 bytes and at least a program unit.
 pub fn read_master<F: Flash>(
     flash: &mut F,
     area: u32,

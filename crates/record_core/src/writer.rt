@@ -64,7 +64,8 @@ pub(crate) struct Payload<'a> {
     pub(crate) value: &'a [u8],
 }
 
-// Programs as many bytes of the payload as `work` has, from `from` on. Its first byte has this place.
+// Programs as many bytes of the payload as `work` has, from `from` on. Its first byte has this
+// place.
 fn program_piece<F: Flash>(
     flash: &mut F,
     place: u32,
@@ -167,9 +168,10 @@ fn program_record<F: Flash>(
     program_padded(flash, place, &header, work)
 }
 
-/// Programs a record from `place` on: the key and the value in ascending place, and then the header. `WriteFault` comes
-/// only where the device's count of write faults rose. `flags` is 0, 1 (write-once) or 2^31 (a remove, whose value is
-/// empty); a value has at most 65,592 bytes, and `work` at least 64 and at least a program unit.
+/// Programs a record from `place` on: the key and the value in ascending place, and then the
+/// header. `WriteFault` comes only where the device's count of write faults rose. `flags` is 0, 1
+/// (write-once) or 2^31 (a remove, whose value is empty); a value has at most 65,592 bytes, and
+/// `work` at least 64 and at least a program unit.
 #[tactic(auto, unfolding(crate::specs::Record::record_bytes))]
 pub fn write_record<F: Flash>(
     flash: &mut F,
@@ -214,9 +216,9 @@ pub(crate) fn value_of_master(version: u16) -> [u8; 8]
     value
 }
 
-/// Programs the master record of this version from `area` on, the place of an area's first byte: its payload, and then
-/// its header. `WriteFault` comes only where the device's count of write faults rose. `work` has at least 64 bytes and
-/// at least a program unit.
+/// Programs the master record of this version from `area` on, the place of an area's first byte:
+/// its payload, and then its header. `WriteFault` comes only where the device's count of write
+/// faults rose. `work` has at least 64 bytes and at least a program unit.
 #[tactic(auto, unfolding(crate::specs::Record::record_bytes))]
 pub fn write_master<F: Flash>(
     flash: &mut F,

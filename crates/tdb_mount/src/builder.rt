@@ -22,8 +22,8 @@ use std::alloc::Global;
 use std::marker::{Brand, PhantomData};
 use std::sync::ledger::{Blank, Ledger};
 
-/// Where the key stands in the table, whose entries are of this area, or would stand. It refuses as `RamTable::find`
-/// does over the keys of the area.
+/// Where the key stands in the table, whose entries are of this area, or would stand. It refuses as
+/// `RamTable::find` does over the keys of the area.
 pub fn place_of<L: Ledger, F: Flash>(
     table: &RamTable,
     flash: &mut F,
@@ -66,7 +66,8 @@ impl HashBits for Brand {
     ghost bits = { 0 };
 }
 
-/// A table of the last record of each key that was shown, and a spare table with room for as many entries.
+/// A table of the last record of each key that was shown, and a spare table with room for as many
+/// entries.
 #[derive(Drop)]
 pub struct Builder<B: HashBits> {
     table: RamTable,

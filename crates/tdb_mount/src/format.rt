@@ -30,9 +30,9 @@ fn erase_first<F: Flash>(flash: &mut F) -> Result<(), KvError>
     }
 }
 
-/// Erases the first area's units in ascending order and then writes a master record of version 1 at its
-/// start. `WriteFault` comes only where the count of write faults rose. At each moment, and after a fault,
-/// nothing outside the area differs.
+/// Erases the first area's units in ascending order and then writes a master record of version 1 at
+/// its start. `WriteFault` comes only where the count of write faults rose. At each moment, and
+/// after a fault, nothing outside the area differs.
 pub fn format<F: Flash>(flash: &mut F, work: &mut [u8]) -> Result<(), KvError>
     requires valid { IsValid (F.state flash.old).geometry }
     requires unit { (F.state flash.old).geometry.prog ≤ length work.old }

@@ -9,9 +9,9 @@ use kv_model::{Key, KvError};
 use ram_table::KeyReader;
 use record_core::read_key_at;
 
-/// Reads the keys of the records of one area of a device by their places, which are its offsets. A read makes no
-/// program and no erase. `Corrupt` comes where the header breaks a rule, its record would end behind the area, or
-/// what stands behind it is no key.
+/// Reads the keys of the records of one area of a device by their places, which are its offsets. A
+/// read makes no program and no erase. `Corrupt` comes where the header breaks a rule, its record
+/// would end behind the area, or what stands behind it is no key.
 #[derive(Drop)]
 pub struct DeviceKeys<'a, F: Flash> {
     pub flash: &'a mut F,

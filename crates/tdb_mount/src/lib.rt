@@ -1,8 +1,8 @@
-//! Mounting a device of two areas, whatever its bytes: which area is active, its version, where its records end,
-//! whether what is behind them is erased, and a table of each key's last record.
+//! Mounting a device of two areas, whatever its bytes: which area is active, its version, where its
+//! records end, whether what is behind them is erased, and a table of each key's last record.
 //!
-//! Where no area is valid the first one is formatted: it is erased, and gets a master record of version 1. Nothing
-//! else is written. Places and sizes are in bytes.
+//! Where no area is valid the first one is formatted: it is erased, and gets a master record of
+//! version 1. Nothing else is written. Places and sizes are in bytes.
 #![tactic(auto)]
 
 mod active;

@@ -178,14 +178,15 @@ fn mount_valid<F: Flash>(alloc: Global, flash: &mut F, hash_bits: u8) -> Result<
     walk::<Brand, F>(alloc, flash, active, hash_bits, &mut work)
 }
 
-/// Mounts a device: finds its active area, that area's version and the end of its records, and builds a table of
-/// them, by hashes of `hash_bits` bits, at most 32. Where no area is valid the first one is formatted, and nothing
-/// else is ever written.
+/// Mounts a device: finds its active area, that area's version and the end of its records, and
+/// builds a table of them, by hashes of `hash_bits` bits, at most 32. Where no area is valid the
+/// first one is formatted, and nothing else is ever written.
 ///
-/// `BadGeometry` comes exactly where the geometry isn't valid, and then nothing is touched. `ReadFault` and
-/// `WriteFault` come only where that count of the device rose, `ReadFault` on no steady device and neither on a sound
-/// one. The mount takes memory: a work buffer of 4,096 bytes, the table, and a spare table of equal capacity. Where a
-/// device that tells nothing of its bytes gives others for a key than before, that record is left out of the table.
+/// `BadGeometry` comes exactly where the geometry isn't valid, and then nothing is touched.
+/// `ReadFault` and `WriteFault` come only where that count of the device rose, `ReadFault` on no
+/// steady device and neither on a sound one. The mount takes memory: a work buffer of 4,096 bytes,
+/// the table, and a spare table of equal capacity. Where a device that tells nothing of its bytes
+/// gives others for a key than before, that record is left out of the table.
 pub fn mount_parts<F: Flash>(
     alloc: Global,
     flash: &mut F,
