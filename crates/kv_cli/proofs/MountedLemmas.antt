@@ -2,6 +2,7 @@
 use Rattle.std.proofs.Common.{◌≡◌, ℕ, ◌+◌, ◌-◌, ◌*◌, ◌≤◌, true, false, List, [], length, inr, refl, sym, ◌∙◌, ap, subst, arith}
 use Rattle.std.specs.Prelude.{Option, Some, None, Ok}
 use Rattle.std.specs.FinMap.{empty}
+use Rattle.base_core.proofs.UnitLemmas.{up-ge}
 use Rattle.flash_core.specs.declared.geometry.Geometry.{Geometry}
 use Rattle.flash_core.specs.Calls.{Keeps}
 use Rattle.flash_core.specs.Images.{part, IsErased, Torn}
@@ -104,7 +105,7 @@ module _ (g : Geometry) (valid : IsValid g) (image : List ℕ) (sized : length i
   area_fits = omega (arith, sized, size-areas g)
 
   middle_long : length (first_erased g image) ≡ length image
-  middle_long = length-erased image 0 (area_size g) area_fits
+  middle_long = length-erased image 0 (area_size g) (omega (arith, area_fits))
 
   long : length (master_bytes g.prog 1) ≡ master_size g.prog
   long = length-master_bytes g.prog fresh_positive 1
@@ -148,7 +149,7 @@ module _ (g : Geometry) (valid : IsValid g) (image : List ℕ) (sized : length i
   -- an erased device is formatted
   module _ (erased : IsErased image 0 (size_of g)) where
     some_area : 1 ≤ area_size g
-    some_area = omega (arith, master_in_area g valid, extent-positive g.prog fresh_positive (record { flags = 0; key = []; value = [] }))
+    some_area = omega (arith, master_in_area g valid, up-ge g.prog 24 fresh_positive)
 
     no_master : (area : ℕ) → area + 1 ≤ size_of g → MasterAt g.prog image area None
     no_master area inside version is = no_master_erased g.prog fresh_positive image area version (erased area (omega arith) (omega (arith, inside))) is
