@@ -1,12 +1,15 @@
-//! Runs the ciphers and sealed records over inputs from standard input, to be compared with another implementation.
+//! Runs the ciphers and sealed records over inputs from standard input, to be compared with another
+//! implementation.
 //!
-//! Each line is one of these. Bytes are hexadecimal digits, `-` where there are none; ROOT, KEY, START and PRIOR are 16
-//! bytes, and NAME is the key that a record stands under. Texts, values and stored bytes are taken in two pieces, cut at
-//! CUT.
+//! Each line is one of these. Bytes are hexadecimal digits, `-` where there are none; ROOT, KEY,
+//! START and PRIOR are 16 bytes, and NAME is the key that a record stands under. Texts, values and
+//! stored bytes are taken in two pieces, cut at CUT.
 //!
-//! - `KEY START CUT TEXT`: answers the text in counter mode from the counter block START on, and its CMAC.
+//! - `KEY START CUT TEXT`: answers the text in counter mode from the counter block START on, and
+//!   its CMAC.
 //! - `seal ROOT NAME FLAGS NUMBER PRIOR CUT VALUE`: answers the record.
-//! - `open ROOT NAME CUT RECORD`: answers the size of the metadata, the flags, the prior and the value, or `refused`.
+//! - `open ROOT NAME CUT RECORD`: answers the size of the metadata, the flags, the prior and the
+//!   value, or `refused`.
 #![tactic(auto)]
 
 mod pieces;

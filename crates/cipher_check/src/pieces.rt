@@ -6,8 +6,8 @@ ghost use Rattle.cipher_core.specs.Cmac.{cmac};
 
 use cipher_core::{CmacStream, CtrStream};
 
-/// Puts a text into counter mode, and gives the CMAC of the text as it was, both over the two pieces
-/// that a cut makes.
+/// Puts a text into counter mode, and gives the CMAC of the text as it was, both over the two
+/// pieces that a cut makes.
 pub fn in_two_pieces(key: &[u8; 16], start: &[u8; 16], text: &mut [u8], cut: usize) -> [u8; 16]
     requires { cut ≤ length text.old }
     ensures text { text.new ≡ ctr_text key.now (from_be_bytes w128 start.now) 0 text.old }

@@ -19,12 +19,14 @@ pub struct Sealing<'a> {
     pub prior: Option<[u8; 16]>,
 }
 
-/// Seals a value, cut in two: leaves its stored bytes, and gives what stands in front of them and behind them.
+/// Seals a value, cut in two: leaves its stored bytes, and gives what stands in front of them and
+/// behind them.
 pub fn seal_in_two(what: &Sealing, value: &mut [u8], cut: usize) -> ([u8; 40], [u8; 16])
     requires cut { cut ≤ length value.old }
     requires size { length value.old < 2 ^ 32 }
     ensures { result.0 ++ value.new ++ result.1
-        ≡ seal what.now.root.now what.now.key.now what.now.flags.bits what.now.iv what.now.prior value.old }
+        ≡ seal what.now.root.now what.now.key.now what.now.flags.bits what.now.iv what.now.prior
+        value.old }
 {
     let size = value.len() as u32;
     let mut stream = SealStream::new(what.root, what.key, what.flags, what.iv, what.prior, size);
@@ -50,9 +52,10 @@ fn absorb_in_two(stream: &mut OpenStream, bytes: &mut [u8], cut: usize)
     requires left { length bytes.old ≡ stream.old.body.left }
     ensures left { stream.new.body.left ≡ 0 }
     ensures metadata { stream.new.metadata ≡ stream.old.metadata }
-    ensures opened { (root key : List ℕ) → HasOpened stream.old root key [] → HasOpened stream.new root key bytes.old }
-    ensures value { (root key : List ℕ) → HasOpened stream.old root key [] → let m = stream.old.metadata in
-        bytes.new ≡ opened root key m.flags m.vector bytes.old }
+    ensures opened { (root key : List ℕ) → HasOpened stream.old root key []
+        → HasOpened stream.new root key bytes.old }
+    ensures value { (root key : List ℕ) → HasOpened stream.old root key []
+        → let m = stream.old.metadata in bytes.new ≡ opened root key m.flags m.vector bytes.old }
 {
     let (front, back) = bytes.split_at_mut(cut);
     stream.absorb(front);

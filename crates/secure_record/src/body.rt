@@ -13,8 +13,8 @@ use kv_model::Key;
 
 const CONFIDENTIAL: u32 = 2;
 
-/// What the two streams share: the CMAC so far, the cipher where the value is confidential, and how many bytes of the
-/// value are to come.
+/// What the two streams share: the CMAC so far, the cipher where the value is confidential, and how
+/// many bytes of the value are to come.
 #[derive(Drop)]
 pub struct BodyStream {
     pub mac: CmacStream,
@@ -25,7 +25,11 @@ pub struct BodyStream {
 // The cipher of a confidential value, from its first byte on.
 #[tactic(auto, unfolding(crate::specs::Sealed::first_counter))]
 fn cipher_for(root: &[u8; 16], key: &Key, vector: u64) -> CtrStream
-    ensures { result ≡ record { key = derived root.now Enc key.now; start = first_counter vector; place = 0 } }
+    ensures { result ≡ record {
+      key = derived root.now Enc key.now;
+      start = first_counter vector;
+      place = 0;
+    } }
 {
     let mut counter = [0; 16];
     counter[..8].copy_from_slice(&vector.to_be_bytes());
@@ -43,7 +47,8 @@ fn combine(cipher: &mut Option<CtrStream>, buf: &mut [u8])
 }
 
 impl BodyStream {
-    /// The body of a record with this metadata, whose bytes are these, before the first byte of its value.
+    /// The body of a record with this metadata, whose bytes are these, before the first byte of its
+    /// value.
     pub fn new(root: &[u8; 16], key: &Key, metadata: &Metadata, spelled: &[u8]) -> BodyStream
         requires { spelled.now ≡ spelling metadata.now }
         ensures taken { HasTaken result root.now key.now metadata.now [] }

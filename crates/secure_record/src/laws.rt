@@ -7,11 +7,13 @@ ghost use Rattle.secure_record.specs.Unseal.{unseal, IsInParts, Opened, WasSeale
 ghost use Rattle.secure_record.specs.declared.metadata.Metadata.{Metadata};
 ghost use Rattle.secure_record.specs.declared.metadata.Revision.TheVariants.{Second};
 
-/// What is sealed opens to the same flags and value under the same key, in either revision. The vector is the number of
-/// the seal; it is zero in revision 2 without flags, and in revision 1 where the value isn't confidential.
+/// What is sealed opens to the same flags and value under the same key, in either revision. The
+/// vector is the number of the seal; it is zero in revision 2 without flags, and in revision 1
+/// where the value isn't confidential.
 pub fn sealed_records_are_opened()
     ensures second { (root key : List ℕ) (flags iv : ℕ) (prior : Option (List ℕ)) (value : List ℕ)
-        → IsTrue (is_secure_flags flags) → iv < 2 ^ 64 → HasPrior Second prior → length value ≤ 65536
+        → IsTrue (is_secure_flags flags) → iv < 2 ^ 64 → HasPrior Second prior
+        → length value ≤ 65536
         → unseal root key (seal root key flags iv prior value)
         ≡ Some (record { flags = flags; vector = sealed_vector flags iv; value = value }) }
     ensures first { (root key : List ℕ) (flags iv : ℕ) (value : List ℕ)
@@ -22,13 +24,15 @@ pub fn sealed_records_are_opened()
     cipher_core::laws::cmacs_have_sixteen_bytes();
 }
 
-/// What opens was sealed for that key: it is the record of its flags, vector and value in one of the two revisions.
+/// What opens was sealed for that key: it is the record of its flags, vector and value in one of
+/// the two revisions.
 pub fn opened_records_were_sealed()
-    ensures { (root key bytes : List ℕ) (o : Opened) → unseal root key bytes ≡ Some o → WasSealed root key bytes o }
+    ensures { (root key bytes : List ℕ) (o : Opened) → unseal root key bytes ≡ Some o
+        → WasSealed root key bytes o }
 {}
 
-/// A record is read in one way: two records with the same bytes have the same metadata, its revision included, and the
-/// same value.
+/// A record is read in one way: two records with the same bytes have the same metadata, its
+/// revision included, and the same value.
 pub fn records_have_one_reading()
     ensures { (root key : List ℕ) (m n : Metadata) (v w : List ℕ)
         → IsMetadata m → IsMetadata n → length v ≡ m.size → length w ≡ n.size
@@ -39,6 +43,8 @@ pub fn records_have_one_reading()
 
 /// Bytes with metadata are that, the stored bytes and a tag; bytes without metadata seal nothing.
 pub fn metadata_divides_records()
-    ensures parts { (bytes : List ℕ) (m : Metadata) → metadata_of (take 40 bytes) (length bytes) ≡ Some m → IsInParts bytes m }
-    ensures none { (root key bytes : List ℕ) → metadata_of (take 40 bytes) (length bytes) ≡ None → unseal root key bytes ≡ None }
+    ensures parts { (bytes : List ℕ) (m : Metadata)
+        → metadata_of (take 40 bytes) (length bytes) ≡ Some m → IsInParts bytes m }
+    ensures none { (root key bytes : List ℕ)
+        → metadata_of (take 40 bytes) (length bytes) ≡ None → unseal root key bytes ≡ None }
 {}

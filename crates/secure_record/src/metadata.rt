@@ -159,7 +159,8 @@ impl Metadata {
     #[tactic(auto, unfolding(crate::specs::Metadata::spelling))]
     fn is_spelled_in(&self, head: &[u8]) -> bool
         requires { metadata_size self.now.revision ≤ length head.now }
-        ensures { result ≡ bytes_eq (take (metadata_size self.now.revision) head.now) (spelling self.now) }
+        ensures { result
+            ≡ bytes_eq (take (metadata_size self.now.revision) head.now) (spelling self.now) }
     {
         match self.revision {
             Revision::First => head[..20] == self.front()[..],
@@ -167,8 +168,9 @@ impl Metadata {
         }
     }
 
-    /// The metadata of a record of this size that begins with this head: its first 40 bytes, or all where it is shorter.
-    /// None comes exactly where they are metadata of neither revision for that size.
+    /// The metadata of a record of this size that begins with this head: its first 40 bytes, or all
+    /// where it is shorter. None comes exactly where they are metadata of neither revision for that
+    /// size.
     #[tactic(auto, unfolding(crate::specs::Metadata::metadata_of))]
     pub fn read(head: &[u8], size: u32) -> Option<Metadata>
         requires { IsHead head.now size }

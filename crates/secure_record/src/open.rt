@@ -28,8 +28,9 @@ impl Model for OpenStream {
 }
 
 impl OpenStream {
-    /// Begins a record of `length` bytes that stands under the key. `head` is its first 40 bytes, or all where it is
-    /// shorter. `AuthFailed` comes exactly where these are metadata of neither revision for that length.
+    /// Begins a record of `length` bytes that stands under the key. `head` is its first 40 bytes,
+    /// or all where it is shorter. `AuthFailed` comes exactly where these are metadata of neither
+    /// revision for that length.
     pub fn new(root: &[u8; 16], key: &Key, head: &[u8], length: u32) -> Result<OpenStream, KvError>
         requires { IsHead head.now length }
         ensures { Begins result root.now key.now head.now length }
@@ -47,7 +48,8 @@ impl OpenStream {
         u32::from(self.metadata.revision.metadata_size())
     }
 
-    /// The CMAC that the record's own replaced. None comes exactly for revision 1 and where none is named.
+    /// The CMAC that the record's own replaced. None comes exactly for revision 1 and where none is
+    /// named.
     pub fn prior(&self) -> Option<[u8; 16]>
         ensures { result ≡ self.now.metadata.prior }
     {
@@ -70,23 +72,25 @@ impl OpenStream {
         self.metadata.size
     }
 
-    /// Puts the next stored bytes into the form that they have in the value, in place. They are at most as many as are
-    /// left of the value's size.
+    /// Puts the next stored bytes into the form that they have in the value, in place. They are at
+    /// most as many as are left of the value's size.
     pub fn absorb(&mut self, buf: &mut [u8])
         requires { length buf.old ≤ self.old.body.left }
         ensures left { self.new.body.left + length buf.old ≡ self.old.body.left }
         ensures metadata { self.new.metadata ≡ self.old.metadata }
 
         // So it doesn't matter how a record is cut into pieces.
-        ensures opened { (root key front : List ℕ) → HasOpened self.old root key front → HasOpened self.new root key (front ++ buf.old) }
-        ensures pieces { (root key front : List ℕ) → HasOpened self.old root key front → let m = self.old.metadata in
-            opened root key m.flags m.vector (front ++ buf.old) ≡ opened root key m.flags m.vector front ++ buf.new }
+        ensures opened { (root key front : List ℕ) → HasOpened self.old root key front
+            → HasOpened self.new root key (front ++ buf.old) }
+        ensures pieces { (root key front : List ℕ) → HasOpened self.old root key front
+            → let m = self.old.metadata in opened root key m.flags m.vector (front ++ buf.old)
+            ≡ opened root key m.flags m.vector front ++ buf.new }
     {
         self.body.open(buf);
     }
 
-    /// The CMAC of the record, once all stored bytes are absorbed, where the record's last 16 bytes are this CMAC.
-    /// `AuthFailed` comes exactly where they differ.
+    /// The CMAC of the record, once all stored bytes are absorbed, where the record's last 16 bytes
+    /// are this CMAC. `AuthFailed` comes exactly where they differ.
     pub fn finish(self, tag: &[u8; 16]) -> Result<[u8; 16], KvError>
         requires { self.body.left ≡ 0 }
         ensures { (root key bytes : List ℕ) → HasOpened self root key bytes

@@ -34,8 +34,9 @@ fn vector_for(flags: Flags, iv: u64) -> u64
 }
 
 impl SealStream {
-    /// A record for the key, of a value of `size` bytes. `iv` is the number of this seal, which the record has as its
-    /// vector unless there are no flags; `prior` is the CMAC of the record that it replaces, where that is kept.
+    /// A record for the key, of a value of `size` bytes. `iv` is the number of this seal, which the
+    /// record has as its vector unless there are no flags; `prior` is the CMAC of the record that
+    /// it replaces, where that is kept.
     pub fn new(
         root: &[u8; 16],
         key: &Key,
@@ -44,7 +45,8 @@ impl SealStream {
         prior: Option<[u8; 16]>,
         size: u32,
     ) -> SealStream
-        ensures sealed { HasSealed result root.now key.now (sealed_metadata size flags.bits iv prior) [] }
+        ensures sealed { let m = sealed_metadata size flags.bits iv prior in
+            HasSealed result root.now key.now m [] }
         ensures left { result.body.left ≡ size }
     {
         let metadata = Metadata {
@@ -66,18 +68,21 @@ impl SealStream {
         self.head
     }
 
-    /// Puts the next bytes of the value into their stored form, in place. They are at most as many as are left of the
-    /// record's size.
+    /// Puts the next bytes of the value into their stored form, in place. They are at most as many
+    /// as are left of the record's size.
     pub fn seal(&mut self, buf: &mut [u8])
         requires { length buf.old ≤ self.old.body.left }
         ensures left { self.new.body.left + length buf.old ≡ self.old.body.left }
         ensures head { self.new.head ≡ self.old.head }
 
         // So it doesn't matter how a value is cut into pieces.
-        ensures sealed { (root key : List ℕ) (m : Metadata) (front : List ℕ) → HasSealed self.old root key m front
+        ensures sealed { (root key : List ℕ) (m : Metadata) (front : List ℕ)
+            → HasSealed self.old root key m front
             → HasSealed self.new root key m (front ++ buf.old) }
-        ensures pieces { (root key : List ℕ) (m : Metadata) (front : List ℕ) → HasSealed self.old root key m front
-            → stored root key m.flags m.vector (front ++ buf.old) ≡ stored root key m.flags m.vector front ++ buf.new }
+        ensures pieces { (root key : List ℕ) (m : Metadata) (front : List ℕ)
+            → HasSealed self.old root key m front
+            → stored root key m.flags m.vector (front ++ buf.old)
+            ≡ stored root key m.flags m.vector front ++ buf.new }
     {
         self.body.seal(buf);
     }
@@ -87,7 +92,8 @@ impl SealStream {
         requires { self.body.left ≡ 0 }
         ensures { (root key : List ℕ) (flags iv : ℕ) (prior : Option (List ℕ)) (value : List ℕ)
             → HasSealed self root key (sealed_metadata (length value) flags iv prior) value
-            → self.head ++ stored root key flags (sealed_vector flags iv) value ++ result ≡ seal root key flags iv prior value }
+            → self.head ++ stored root key flags (sealed_vector flags iv) value ++ result
+            ≡ seal root key flags iv prior value }
     {
         let SealStream { body, .. } = self;
         body.finish()

@@ -4,7 +4,8 @@ use crate::{OpenStream, SealStream};
 use kv_model::{Flags, Key, KvError};
 use std::process::Abort;
 
-// The records of this file were computed by Python's package `cryptography`, with no code of this repository:
+// The records of this file were computed by Python's package `cryptography`, with no code of this
+// repository:
 //
 //     def derive(root, salt, key): return cmac(root, b"\x01" + salt + key + b"\x00\x00\x80")
 //     head = struct.pack("<HHII", 40, 2, len(value), flags) + vector.to_bytes(8, "big")
@@ -13,7 +14,8 @@ use std::process::Abort;
 //     stored = cipher.encryptor().update(value) if flags & 2 else value
 //     record = head + stored + cmac(derive(root, b"AUTH", key), head + key + stored)
 //
-// and the record of revision 1 with the head struct.pack("<HHII", 20, 1, len(value), flags) and the vector alone.
+// and the record of revision 1 with the head struct.pack("<HHII", 20, 1, len(value), flags) and the
+// vector alone.
 
 const ROOT: [u8; 16] = [0, 1, 2, 3, 4, 5, 6, 7, 8, 9, 10, 11, 12, 13, 14, 15];
 
@@ -31,7 +33,8 @@ const SMALL: [u8; 59] = [
     0x73, 0x82, 0x6b, 0xbd, 0x3d, 0x30, 0x4f, 0xe7, 0x23, 0x30, 0x89,
 ];
 
-// The key `cert.pem`, the value of this file, all three flags, the number 0x0102030405060708, and a prior.
+// The key `cert.pem`, the value of this file, all three flags, the number 0x0102030405060708, and a
+// prior.
 const SECOND: [u8; 76] = [
     0x28, 0x00, 0x02, 0x00, 0x14, 0x00, 0x00, 0x00, 0x0b, 0x00, 0x00, 0x00, 0x01, 0x02, 0x03, 0x04,
     0x05, 0x06, 0x07, 0x08, 0x01, 0x00, 0x00, 0x00, 0xa0, 0xa1, 0xa2, 0xa3, 0xa4, 0xa5, 0xa6, 0xa7,
