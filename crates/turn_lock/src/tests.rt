@@ -56,6 +56,33 @@ impl Diary {
     }
 }
 
+impl Diary {
+    ghost use Rattle.std.specs.Prelude.{◌⊎◌, Some, None};
+
+    // Names the caller that quits, if it is the first.
+    fn quit(&mut self, who: u8)
+        ensures pages { self.new.pages.items ≡ self.old.pages.items }
+        ensures quitter { (self.new.quitter ≡ self.old.quitter)
+            ⊎ ((self.old.quitter ≡ None) × (self.new.quitter ≡ Some who)) }
+    {
+        if self.quitter.is_none() {
+            self.quitter = Some(who);
+        }
+    }
+}
+
+// Quits in a turn.
+fn quit_in_turn<R: Wait>(rt: &R, turns: &Turns<Diary>, pass: &mut Pass<Diary>)
+    requires { IsIdle (table_of turns.now) pass.old }
+    ensures { IsIdle (table_of turns.now) pass.new }
+{
+    let mut held = turns.take(rt, pass);
+    let who = pass.who();
+    held.state().quit(who);
+    turns.note(pass, &mut held);
+    turns.give(pass, held);
+}
+
 // Writes a page in a turn.
 fn write_page<R: Wait>(rt: &R, turns: &Turns<Diary>, pass: &mut Pass<Diary>)
     requires { IsReady (table_of turns.now) 1 pass.old }
@@ -251,5 +278,18 @@ fn four_threads_write_one_diary(rt: HostRuntime) -> Result<(), Fail> {
         }
     }
     assert_eq!(rt; written, [250, 250, 250, 250]);
+    Ok(())
+}
+
+#[test]
+fn the_first_that_quits_is_named(rt: HostRuntime) -> Result<(), Fail> {
+    let (turns, mut one) = opened(rt.alloc())?;
+    let mut other = turns.split(&mut one, 7, 100);
+    quit_in_turn(&rt, &turns, &mut other);
+    quit_in_turn(&rt, &turns, &mut one);
+    turns.join(&mut one, other);
+    assert_eq!(rt; (one.made(), one.parts()), (0, 65_536));
+    let diary = turns.close(&rt, one);
+    assert_eq!(rt; diary.quitter, Some(7));
     Ok(())
 }
