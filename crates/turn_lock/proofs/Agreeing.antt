@@ -1,18 +1,17 @@
 -- What the rule says of two passes.
-use Rattle.std.proofs.Common.{◌≡◌, ◌≢◌, ◌⊎◌, inl, inr, ℕ, zero, suc, ◌+◌, ◌-◌, ◌≤◌, ◌<◌, List, length, set, Option, refl, sym, ◌∙◌, arith, lt_of_not-le}
+use Rattle.std.proofs.Common.{◌≡◌, ◌≢◌, ◌⊎◌, inl, inr, ℕ, zero, suc, ◌+◌, ◌≤◌, ◌<◌, List, length, set, refl, sym, ◌∙◌, arith, lt_of_not-le}
 use mathlib.Core.Option.{some}
 use mathlib.Core.Logic.{dite}
 use mathlib.Core.List.{IsPrefix}
 use native.Mathlib.Decide.{dec_le}
 use lib.ListN.{get_elem?}
-use Rattle.atomic_table.specs.Table.{State}
 use Rattle.atomic_table.proofs.Lists.{set_else}
 use Rattle.kv_model.specs.Opening.{Opening}
 use Rattle.kv_model.specs.declared.call.Entry.{Entry}
 use Rattle.turn_lock.specs.Books.{Book}
 use Rattle.turn_lock.specs.Totals.{total, times, once}
 use Rattle.turn_lock.specs.Views.{spent}
-use Rattle.turn_lock.specs.Rule.{out, last, busy, Knows, Kept, Agree, PassesAgree}
+use Rattle.turn_lock.specs.Rule.{out, PassesAgree}
 use Rattle.turn_lock.specs.declared.view.View.{View}
 use Rattle.turn_lock.proofs.Totals.{total-set, total-at}
 use Rattle.turn_lock.proofs.Prefixes.{shorter_begins}

@@ -1,5 +1,6 @@
 pub mod Agreeing
 pub mod Closing
+pub mod Diaries
 pub mod Keeping
 pub mod Meeting
 pub mod Noting

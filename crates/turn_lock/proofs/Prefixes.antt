@@ -43,6 +43,3 @@ shorter_begins xs ys zs p q le =
 pub longer_is : (P : Log → Type 0) (xs ys : Log) → (length xs < length ys → P ys) → (length ys ≤ length xs → P xs) → (b : Bool) → ltb (length xs) (length ys) ≡ b → P (cond b ys xs)
 longer_is P xs ys less more true is = less (ltb-true (length xs) (length ys) is)
 longer_is P xs ys less more false is = more (ltb-false (length xs) (length ys) is)
-
-pub begins_more : (xs ys zs : Log) → ys ≡ xs ++ zs → IsPrefix xs ys
-begins_more xs ys zs e = (zs, sym e)

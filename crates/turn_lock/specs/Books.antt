@@ -22,5 +22,8 @@ no_opening = record {
   labels = [];
 }
 
+abbrev pub unopened : List Entry → Option ℕ → Book
+unopened entries quitter = record { opening = no_opening; entries = entries; quitter = quitter }
+
 abbrev pub no_book : Book
-no_book = record { opening = no_opening; entries = []; quitter = None }
+no_book = unopened [] None

@@ -11,7 +11,12 @@ use Rattle.turn_lock.specs.Views.{ALL, taken, loaded, longer, missed, with_found
 use Rattle.turn_lock.specs.Steps.{IsNext, IsProper}
 use Rattle.turn_lock.specs.declared.view.View.{View}
 use Rattle.turn_lock.specs.declared.view.Phase.TheVariants.{Idle, Loaded}
+use Rattle.turn_lock.specs.declared.held.Held.{Held}
 use Rattle.turn_lock.specs.declared.pass.Pass.{Pass}
+
+-- the value that is lent in a turn
+abbrev pub value_of : {S : Type 0} → Held S → S
+value_of held = held.state
 
 abbrev pub view_of : {S : Type 0} → Pass S → View
 view_of pass = pass.seat.me.0
@@ -30,6 +35,13 @@ IsIdle table pass = IsIdleSeat table pass.seat
 pub record IsReady {S : Type 0} (table : TableId) (entries : ℕ) (pass : Pass S) : Type 0 where
   pub idle : IsIdle table pass
   pub room : length (view_of pass).own + entries ≤ (view_of pass).parts
+
+-- two passes at once
+abbrev pub AreIdle : {S : Type 0} → TableId → Pass S → Pass S → Type 0
+AreIdle table one other = IsIdle table one × IsIdle table other
+
+abbrev pub AreReady : {S : Type 0} → TableId → ℕ → Pass S → Pass S → Type 0
+AreReady table entries one other = IsReady table entries one × IsReady table entries other
 
 -- a pass of this table that has the turn, and the value is out
 pub record IsAtTurn {S : Type 0} (table : TableId) (pass : Pass S) : Type 0 where

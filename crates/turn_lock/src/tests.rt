@@ -1,6 +1,6 @@
 ghost use Rattle.std.specs.Prelude.{◌≡◌, ◌+◌, ◌<◌, ◌≤◌, [], length, IfOk};
 ghost use Rattle.turn_lock.specs.Tables.{table_of};
-ghost use Rattle.turn_lock.specs.Passes.{view_of, IsAsNoted, IsAtTurn, IsIdle, IsReady};
+ghost use Rattle.turn_lock.specs.Passes.{view_of, AreIdle, AreReady, IsIdle, IsReady};
 
 use super::*;
 use kv_model::{Call, Entry, Reply};
@@ -19,9 +19,9 @@ struct Diary {
 
 impl Booked for Diary {
     ghost use Rattle.std.specs.Prelude.{◌≡◌, refl};
-    ghost use Rattle.turn_lock.specs.Books.{no_opening};
+    ghost use Rattle.turn_lock.specs.Books.{no_opening, unopened};
 
-    ghost book = { λ d. record { opening = no_opening; entries = d.pages.items; quitter = d.quitter } };
+    ghost book = { λ d. unopened d.pages.items d.quitter };
 
     ghost stands_for = { λ d opening. opening ≡ no_opening };
 
@@ -36,7 +36,7 @@ impl Diary {
     ghost use mathlib.Core.List.{IsPrefix};
 
     // Writes the next page, if there is memory for it.
-    #[tactic(auto, using(crate::proofs::Prefixes::whole_begins, crate::proofs::Prefixes::begins_more))]
+    #[tactic(auto, using(crate::proofs::Diaries::same, crate::proofs::Diaries::more))]
     fn write(&mut self, who: u8)
         ensures begins { IsPrefix self.old.pages.items self.new.pages.items }
         ensures one { length self.new.pages.items ≤ length self.old.pages.items + 1 }
@@ -56,14 +56,41 @@ impl Diary {
     }
 }
 
-fn write_page(turns: &Turns<Diary>, pass: &mut Pass<Diary>, mut held: Held<Diary>)
-    requires turn { IsAtTurn (table_of turns.now) pass.old }
-    requires value { IsAsNoted ⟦<Diary as Booked>⟧.stands_for ⟦<Diary as Booked>⟧.book (view_of pass.old) held.state }
-    requires room { length (view_of pass.old).own < (view_of pass.old).parts }
+impl Diary {
+    ghost use Rattle.std.specs.Prelude.{◌⊎◌, Some, None};
+
+    // Names the caller that quits, if it is the first.
+    fn quit(&mut self, who: u8)
+        ensures pages { self.new.pages.items ≡ self.old.pages.items }
+        ensures quitter { (self.new.quitter ≡ self.old.quitter)
+            ⊎ ((self.old.quitter ≡ None) × (self.new.quitter ≡ Some who)) }
+    {
+        if self.quitter.is_none() {
+            self.quitter = Some(who);
+        }
+    }
+}
+
+// Quits in a turn.
+fn quit_in_turn<R: Wait>(rt: &R, turns: &Turns<Diary>, pass: &mut Pass<Diary>)
+    requires { IsIdle (table_of turns.now) pass.old }
+    ensures { IsIdle (table_of turns.now) pass.new }
+{
+    let mut held = turns.take(rt, pass);
+    let who = pass.who();
+    held.state().quit(who);
+    turns.note(pass, &mut held);
+    turns.give(pass, held);
+}
+
+// Writes a page in a turn.
+fn write_page<R: Wait>(rt: &R, turns: &Turns<Diary>, pass: &mut Pass<Diary>)
+    requires { IsReady (table_of turns.now) 1 pass.old }
     ensures idle { IsIdle (table_of turns.now) pass.new }
     ensures parts { (view_of pass.new).parts ≡ (view_of pass.old).parts }
     ensures own { length (view_of pass.new).own ≤ length (view_of pass.old).own + 1 }
 {
+    let mut held = turns.take(rt, pass);
     let who = pass.who();
     held.state().write(who);
     turns.note(pass, &mut held);
@@ -81,8 +108,7 @@ fn write_pages<R: Wait>(
     ensures { IsIdle (table_of turns.now) result }
 {
     for _round in 0..pages {
-        let held = turns.take(rt, &mut pass);
-        write_page(turns, &mut pass, held);
+        write_page(rt, turns, &mut pass);
     }
     pass
 }
@@ -129,12 +155,12 @@ fn four_write<R: Threads + Wait + Sync>(
     let ((mut one, two), (three, four)) = join(
         rt,
         || -> (Pass<Diary>, Pass<Diary>)
-            requires { IsReady (table_of turns.now) 250 one × IsReady (table_of turns.now) 250 two }
-            ensures { IsIdle (table_of turns.entry.now) result.0 × IsIdle (table_of turns.entry.now) result.1 }
+            requires { AreReady (table_of turns.now) 250 one two }
+            ensures { AreIdle (table_of turns.entry.now) result.0 result.1 }
         { two_write(rt, turns, one, two) },
         || -> (Pass<Diary>, Pass<Diary>)
-            requires { IsReady (table_of turns.now) 250 three × IsReady (table_of turns.now) 250 four }
-            ensures { IsIdle (table_of turns.entry.now) result.0 × IsIdle (table_of turns.entry.now) result.1 }
+            requires { AreReady (table_of turns.now) 250 three four }
+            ensures { AreIdle (table_of turns.entry.now) result.0 result.1 }
         { two_write(rt, turns, three, four) },
     );
     turns.join(&mut one, two);
@@ -182,10 +208,8 @@ fn passes_split_meet_and_join(rt: HostRuntime) -> Result<(), Fail> {
         (7, 0, 100, 65_436)
     );
 
-    let held = turns.take(&rt, &mut one);
-    write_page(&turns, &mut one, held);
-    let held = turns.take(&rt, &mut other);
-    write_page(&turns, &mut other, held);
+    write_page(&rt, &turns, &mut one);
+    write_page(&rt, &turns, &mut other);
     assert_eq!(rt;
         (one.seen(), one.made(), other.seen(), other.made()),
         (1, 1, 2, 1)
@@ -215,25 +239,26 @@ fn a_taken_turn_is_found(rt: HostRuntime) -> Result<(), Fail> {
     let held = turns.take(&rt, &mut one);
     let found = match turns.try_take(&mut other) {
         Ok(held) => {
-            write_page(&turns, &mut other, held);
+            turns.give(&mut other, held);
             0
         }
         Err(Taken { word }) => word,
     };
     assert_eq!(rt; found, 1);
-    write_page(&turns, &mut one, held);
+    turns.give(&mut one, held);
     let took = match turns.try_take(&mut other) {
         Ok(held) => {
-            write_page(&turns, &mut other, held);
+            turns.give(&mut other, held);
             true
         }
         Err(_) => false,
     };
     assert!(rt; took);
-    assert_eq!(rt; (other.seen(), other.made()), (2, 1));
+    write_page(&rt, &turns, &mut other);
+    assert_eq!(rt; (other.seen(), other.made()), (1, 1));
     turns.join(&mut other, one);
     let diary = turns.close(&rt, other);
-    assert_eq!(rt; callers(rt.alloc(), &diary)?.as_slice(), [0, 1].as_slice());
+    assert_eq!(rt; callers(rt.alloc(), &diary)?.as_slice(), [1].as_slice());
     Ok(())
 }
 
@@ -253,5 +278,18 @@ fn four_threads_write_one_diary(rt: HostRuntime) -> Result<(), Fail> {
         }
     }
     assert_eq!(rt; written, [250, 250, 250, 250]);
+    Ok(())
+}
+
+#[test]
+fn the_first_that_quits_is_named(rt: HostRuntime) -> Result<(), Fail> {
+    let (turns, mut one) = opened(rt.alloc())?;
+    let mut other = turns.split(&mut one, 7, 100);
+    quit_in_turn(&rt, &turns, &mut other);
+    quit_in_turn(&rt, &turns, &mut one);
+    turns.join(&mut one, other);
+    assert_eq!(rt; (one.made(), one.parts()), (0, 65_536));
+    let diary = turns.close(&rt, one);
+    assert_eq!(rt; diary.quitter, Some(7));
     Ok(())
 }
