@@ -11,7 +11,8 @@ use std::marker::Model;
 // The greatest number of a client.
 const LAST_CLIENT: u8 = 16;
 
-/// The completed calls of a run, in order. It numbers them, over all and for each client, without walking its list.
+/// The completed calls of a run, in order. It numbers them, over all and for each client, without
+/// walking its list.
 #[derive(Drop)]
 pub struct Journal {
     entries: Vec<Entry>,
@@ -25,7 +26,10 @@ impl Model for Journal {
 
     ghost Value = { JournalState };
 
-    ghost view = { λ j. record { entries = j.entries.items; spare = vec_capacity j.entries - vec_len j.entries } };
+    ghost view = { λ j. record {
+      entries = j.entries.items;
+      spare = vec_capacity j.entries - vec_len j.entries;
+    } };
 
     ghost invariant = { λ j. IsCounted j.counts j.entries.items };
 }
@@ -54,7 +58,8 @@ impl Journal {
         &self.entries
     }
 
-    /// Makes room for one entry more. It refuses for want of memory alone, and the entries stay in any case.
+    /// Makes room for one entry more. It refuses for want of memory alone, and the entries stay in
+    /// any case.
     pub fn reserve(&mut self) -> Result<(), NoMemory>
         ensures entries { self.new.entries ≡ self.old.entries }
         ensures spare { OnOk result (1 ≤ self.new.spare) }
@@ -66,7 +71,8 @@ impl Journal {
     pub fn append(&mut self, who: u8, call: Call, reply: Reply)
         requires room { 1 ≤ self.old.spare }
         requires numbers { length self.old.entries < 4294967295 }
-        ensures { self.new.entries ≡ self.old.entries ++ next_entry self.old.entries who call reply ∷ [] }
+        ensures { self.new.entries
+            ≡ self.old.entries ++ next_entry self.old.entries who call reply ∷ [] }
     {
         let entry = Entry {
             seq: self.entries.len() as u32 + 1,
@@ -88,7 +94,8 @@ impl Journal {
         Ok(text)
     }
 
-    /// The positions of a client's entries, in order and counted from 1. It refuses for want of memory alone.
+    /// The positions of a client's entries, in order and counted from 1. It refuses for want of
+    /// memory alone.
     pub fn of_client(&self, alloc: Global, who: u8) -> Result<Vec<u32>, NoMemory>
         ensures { IfOk result (λ positions. positions.items ≡ positions_of who self.now.entries) }
     {
@@ -101,8 +108,8 @@ impl Journal {
         Ok(positions)
     }
 
-    /// The printed form of the entries of client 0, then of 1, up to 16, a line each. It refuses for want of memory
-    /// alone.
+    /// The printed form of the entries of client 0, then of 1, up to 16, a line each. It refuses
+    /// for want of memory alone.
     pub fn by_client(&self, alloc: Global) -> Result<Vec<u8>, NoMemory>
         ensures { IfOk result (λ text. text.items ≡ text_by_client self.now.entries) }
     {

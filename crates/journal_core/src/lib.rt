@@ -64,8 +64,8 @@ mod tests {
         Ok(())
     }
 
-    // What clients 1 to 4 print: client 1 sets a value of 4,000 bytes in pieces and reads it, and each other client sets
-    // a byte and reads it.
+    // What clients 1 to 4 print: client 1 sets a value of 4,000 bytes in pieces and reads it, and
+    // each other client sets a byte and reads it.
     fn four_clients(alloc: Global) -> Result<Vec<u8>, Fail> {
         let mut text = Vec::new(alloc);
         for i in 1..43_u32 {
@@ -91,7 +91,8 @@ mod tests {
         Ok(Reply::Done)
     }
 
-    // Whatever the schedule, four clients print the same: client 1 has its 43 calls among those of the others.
+    // Whatever the schedule, four clients print the same: client 1 has its 43 calls among those of
+    // the others.
     #[test]
     fn one_text_in_each_schedule(rt: HostRuntime) -> Result<(), Fail> {
         let alloc = rt.alloc();

@@ -1,4 +1,5 @@
-// The printed form of replies. Each function appends to the text, and refuses for want of memory alone.
+// The printed form of replies. Each function appends to the text, and refuses for want of memory
+// alone.
 ghost use Rattle.std.specs.Prelude.{◌≡◌, ◌++◌, OnOk, codes};
 ghost use Rattle.std.specs.Fmt.{decimal};
 ghost use Rattle.journal_core.specs.Clients.{entries_by};
@@ -141,7 +142,8 @@ pub fn push_entries_by(
     who: u8,
     entries: &[Entry],
 ) -> Result<(), NoMemory>
-    ensures { OnOk result (text.new.items ≡ text.old.items ++ text_of (entries_by who entries.now)) }
+    ensures { OnOk result (text.new.items
+        ≡ text.old.items ++ text_of (entries_by who entries.now)) }
 {
     for entry in entries {
         if entry.who == who {

@@ -43,9 +43,10 @@ impl Iters {
         }
     }
 
-    /// Begins iterator `n` of `who` over the keys with a prefix, anew where it is active. It refuses, in this order,
-    /// with `InvalidKey` where the bytes are no prefix, with `TooManyIterators` where `MAX_ITERATORS` others are active,
-    /// and with `Memory`. A refusal changes nothing.
+    /// Begins iterator `n` of `who` over the keys with a prefix, anew where it is active. It
+    /// refuses, in this order, with `InvalidKey` where the bytes are no prefix, with
+    /// `TooManyIterators` where `MAX_ITERATORS` others are active, and with `Memory`. A refusal
+    /// changes nothing.
     pub fn start(&mut self, alloc: Global, who: u8, n: u8, prefix: &[u8]) -> Result<(), KvError>
         ensures granted { OnOk result (start_refusal self.old who n prefix.now ≡ None) }
         ensures started { OnOk result (self.new ≡ started self.old who n prefix.now) }
@@ -77,8 +78,8 @@ impl Iters {
         Ok(&self.slots[place].iter)
     }
 
-    /// Puts iterator `n` of `who` behind a key that it gave. `NoIterator` comes exactly where it is not active, and
-    /// changes nothing. It takes no memory.
+    /// Puts iterator `n` of `who` behind a key that it gave. `NoIterator` comes exactly where it is
+    /// not active, and changes nothing. It takes no memory.
     pub fn advance(&mut self, who: u8, n: u8, key: &Key) -> Result<(), KvError>
         ensures granted { OnOk result (use_refusal self.old who n ≡ None) }
         ensures advanced { OnOk result (self.new ≡ advanced self.old who n key.now) }
@@ -96,8 +97,8 @@ impl Iters {
         Ok(())
     }
 
-    /// Ends iterator `n` of `who`. `NoIterator` comes exactly where it is not active, and changes nothing. It takes no
-    /// memory.
+    /// Ends iterator `n` of `who`. `NoIterator` comes exactly where it is not active, and changes
+    /// nothing. It takes no memory.
     pub fn end(&mut self, who: u8, n: u8) -> Result<(), KvError>
         ensures granted { OnOk result (use_refusal self.old who n ≡ None) }
         ensures ended { OnOk result (self.new ≡ ended self.old who n) }

@@ -1,8 +1,8 @@
-//! The iterators of a store: at most sixteen at once, each with its owner, its number, the prefix of the keys that it
-//! gives, and the key that it gave last.
+//! The iterators of a store: at most sixteen at once, each with its owner, its number, the prefix
+//! of the keys that it gives, and the key that it gave last.
 //!
-//! A table of iterators is seen as the finite map from owner and number to prefix and last key that the model of a
-//! store has. It knows no keys of a store: which key is next is the store's to find.
+//! A table of iterators is seen as the finite map from owner and number to prefix and last key that
+//! the model of a store has. It knows no keys of a store: which key is next is the store's to find.
 #![tactic(auto)]
 
 mod iter;

@@ -86,7 +86,8 @@ pub(crate) fn put_in(slots: &mut Slab<Named>, named: Named)
     slots.insert_reserved(named);
 }
 
-// Puts an iterator in the place of the one of its name, or in a new one. It refuses for want of memory alone.
+// Puts an iterator in the place of the one of its name, or in a new one. It refuses for want of
+// memory alone.
 pub(crate) fn put_at(
     slots: &mut Slab<Named>,
     place: Option<usize>,

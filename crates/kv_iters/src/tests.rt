@@ -139,7 +139,7 @@ fn refusals(rt: HostRuntime) -> Result<(), Fail> {
     Ok(())
 }
 
-// An iterator keeps its prefix as it goes on, and begins anew without its last key; the others stay.
+// An iterator keeps its prefix as it goes on, and begins anew without its last key.
 #[test]
 fn iterators_stand_apart(rt: HostRuntime) -> Result<(), Fail> {
     let mut iters = Iters::new(rt.alloc());
