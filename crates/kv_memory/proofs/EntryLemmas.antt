@@ -1,18 +1,16 @@
 -- The entries of a store in memory as a finite map.
-use Rattle.std.proofs.Common.{◌≡◌, ℕ, ◌+◌, ◌<◌, ◌≤◌, true, List, [], ◌∷◌, length, drop, set, get_or, Option, Some, None, Result, Ok, Err, Ordering, Less, Equal, Greater, refl, sym, ◌∙◌, ap, subst, arith}
+use Rattle.std.proofs.Common.{◌≡◌, ℕ, List, [], set, get_or, Some, None, Result, Ok, Err, Ordering, refl, sym, ◌∙◌, ap, subst}
 use Rattle.std.specs.Ordering.{nat_cmp}
 use Rattle.std.specs.Cmp.Lexicographic.{slice_cmp, nat_list_cmp_total}
 use Rattle.std.specs.List.{insert, remove}
 use Rattle.std.specs.FinMap as finite
 use Rattle.std.specs.FinMap.{empty, get}
-use Rattle.std.specs.FinMap.Entries.{by_order}
-use Rattle.std.proofs.lemmas.List.{drop_more, drop_all}
 use Rattle.kv_model.specs.FlaggedMap.{Stored}
 use Rattle.kv_model.proofs.MapLemmas.{entries-empty}
 use Rattle.kv_model.proofs.NextKeyLemmas.{bytes_same}
 use Rattle.kv_memory.specs.declared.entries.Item.{Item}
-use Rattle.kv_memory.specs.Places.{later, place_of}
-use Rattle.kv_memory.specs.EntryOf.{key_of, stored_of, pair_of, map_of, Rise}
+use Rattle.kv_memory.specs.Places.{place_of}
+use Rattle.kv_memory.specs.EntryOf.{key_of, stored_of, map_of, Rise}
 use Rattle.kv_memory.proofs.SortedLemmas as sorted
 
 abbrev R : List ℕ → List ℕ → Ordering

@@ -1,9 +1,8 @@
 -- How a run of calls goes on by one.
-use Rattle.std.proofs.Common.{◌≡◌, ◌≢◌, ◌⊎◌, ℕ, ◌+◌, ◌≤◌, Bool, true, false, List, [], ◌∷◌, ◌++◌, map, length, Ok, Err, Option, Some, None, refl, sym, ◌∙◌, ap, subst, inl, inr, append_assoc, arith}
-use Rattle.std.specs.Prelude.{is_some, MatchOption, IsTrue}
-use Rattle.std.specs.Option.{ForSome}
+use Rattle.std.proofs.Common.{◌≡◌, ◌≢◌, ℕ, ◌+◌, Bool, true, false, List, [], ◌∷◌, ◌++◌, length, Ok, Err, Option, Some, None, refl, sym, ◌∙◌, ap, subst, inl, inr, append_assoc, arith}
+use Rattle.std.specs.Prelude.{is_some, MatchOption}
 use Rattle.std.proofs.lemmas.List.{append-nil, length-append, length-map, map-append}
-use mathlib.Core.Bool.{false≢true, true≢false}
+use mathlib.Core.Bool.{true≢false}
 use Rattle.base_core.specs.declared.no_memory.NoMemory.{NoMemory}
 use Rattle.kv_model.specs.declared.error.KvError.TheVariants as error
 use Rattle.kv_model.specs.declared.call.Call.{Call}
@@ -16,8 +15,8 @@ use Rattle.kv_model.specs.Operations.{Operation, operation_of}
 use Rattle.kv_model.specs.Rules.{Mounts, Rules, Steps}
 use Rattle.kv_model.specs.History.{AreNumbered, Follows, PassesThrough, Runs, last_state}
 use Rattle.kv_model.specs.Kv.{Does, Keeps, Kind, KvState, LeadsTo, answered, kind_of, Ruled, FailedRead, FailedWrite, Mismatched, Wanted}
-use Rattle.kv_model.specs.Orders.{Line, line_of, lines_of}
-use Rattle.kv_model.specs.Performs.{Performs, reply_or}
+use Rattle.kv_model.specs.Orders.{Line, line_of}
+use Rattle.kv_model.specs.Performs.{Performs}
 use Rattle.kv_model.proofs.HistoryLemmas.{AreNumbered-push, runs_more}
 use Rattle.kv_model.proofs.PerformLemmas.{Keeps-trans}
 use Rattle.journal_core.specs.JournalState.{next_entry}

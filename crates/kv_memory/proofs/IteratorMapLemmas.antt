@@ -1,5 +1,5 @@
 -- The iterators of a store in memory as a finite map.
-use Rattle.std.proofs.Common.{◌≡◌, ℕ, ◌+◌, ◌<◌, ◌≤◌, true, List, [], ◌∷◌, length, map, get_or, set, Option, Some, None, Result, Ok, Err, refl, sym, ◌∙◌, ap, subst, nat_cmp}
+use Rattle.std.proofs.Common.{◌≡◌, ℕ, List, [], length, map, get_or, set, Some, None, Result, Ok, Err, refl, sym, ◌∙◌, ap, subst, nat_cmp}
 use Rattle.std.specs.List.{insert, remove}
 use Rattle.std.specs.FinMap as finite
 use Rattle.std.specs.FinMap.{IsAntisymmetric, empty, get, len, len-entries, nat_cmp-IsAntisymmetric}

@@ -1,10 +1,10 @@
 -- Lists whose keys rise, as finite maps: what an edit at a key's place does to the map.
-use Rattle.std.proofs.Common.{◌≡◌, ℕ, suc, ◌+◌, ◌<◌, ◌≤◌, Bool, true, false, cond, not, ◌&&◌, T, List, [], ◌∷◌, ◌++◌, map, length, take, drop, set, get_or, filter, Option, Some, None, Result, Ok, Err, Ordering, Less, Equal, Greater, is_lt, is_eq, refl, sym, ◌∙◌, ap, subst, arith, true≢false}
+use Rattle.std.proofs.Common.{◌≡◌, ℕ, suc, ◌+◌, ◌<◌, ◌≤◌, Bool, true, false, cond, not, ◌&&◌, T, List, [], ◌∷◌, map, length, set, get_or, Some, None, Result, Ok, Err, Ordering, Less, Equal, Greater, is_lt, is_eq, refl, sym, ◌∙◌, ap, subst, arith, true≢false}
 use Rattle.std.specs.List.{insert, remove}
-use Rattle.std.specs.Cmp.{IsTotalOrder, tied_itself}
+use Rattle.std.specs.Cmp.{IsTotalOrder}
 use Rattle.std.specs.Ordering.{eq_by_cmp}
 use Rattle.std.specs.FinMap as finite
-use Rattle.std.specs.FinMap.{FinMap, IsAntisymmetric, entries, entries_sorted, from_sorted, entries-from_sorted, entries-insert, get-from_sorted, same_entries_map, len-entries}
+use Rattle.std.specs.FinMap.{FinMap, IsAntisymmetric, entries, entries_sorted, from_sorted, entries-from_sorted, entries-insert, get-from_sorted, same_entries_map}
 use Rattle.std.specs.FinMap.Entries.{find, put, is_sorted, below_all, by_order}
 use Rattle.kv_model.proofs.MapLemmas.{entries-remove, others}
 use Rattle.kv_memory.specs.Places.{later, place_of}

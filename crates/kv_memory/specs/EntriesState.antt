@@ -1,5 +1,5 @@
 -- What contracts see of the entries of a store in memory: the map, and how many keys more it takes without memory.
-use Rattle.std.specs.Prelude.{◌≡◌, ℕ, List, length, refl}
+use Rattle.std.specs.Prelude.{ℕ, List, refl}
 use Rattle.std.specs.Coded.{Coded, coded_ℕ, coded×, coded_list, code_by}
 use Rattle.std.specs.FinMap as map
 use Rattle.kv_model.specs.FlaggedMap.{FlaggedMap, Stored}

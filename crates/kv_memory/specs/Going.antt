@@ -1,5 +1,5 @@
 -- What a run of calls on a store does: the journal goes on by entries that are a history of the store.
-use Rattle.std.specs.Prelude.{◌≡◌, ℕ, List, [], ◌++◌}
+use Rattle.std.specs.Prelude.{◌≡◌, List, [], ◌++◌}
 use Rattle.std.specs.Option.{ForSome}
 use Rattle.kv_model.specs.declared.call.Entry.{Entry}
 use Rattle.kv_model.specs.Constants.{Constants}

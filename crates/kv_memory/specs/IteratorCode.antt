@@ -1,5 +1,5 @@
 -- The code of a map of iterators.
-use Rattle.std.specs.Prelude.{◌≡◌, ℕ, List, Option, refl}
+use Rattle.std.specs.Prelude.{ℕ, List, Option, refl}
 use Rattle.std.specs.Coded.{Coded, coded_ℕ, coded_list, coded_option, coded×, code_by}
 use Rattle.std.specs.FinMap as map
 use Rattle.kv_model.specs.StoreState.{Position, Iterators}

@@ -1,10 +1,9 @@
 -- What a call that is made on one store and then on a second leaves in both.
-use Rattle.std.specs.Prelude.{◌≡◌, ℕ, Option, Result, Ok, Err}
+use Rattle.std.specs.Prelude.{ℕ, Result, Ok, Err}
 use Rattle.std.specs.Option.{ForSome}
 use Rattle.kv_model.specs.declared.call.Reply.{Reply}
 use Rattle.kv_model.specs.declared.call.Reply.TheVariants.{Done, Refused}
 use Rattle.kv_model.specs.Constants.{Constants}
-use Rattle.kv_model.specs.StoreState.{StoreState}
 use Rattle.kv_model.specs.Rules.{Rules}
 use Rattle.kv_model.specs.Operations.{Operation}
 use Rattle.kv_model.specs.Opening.{Opening}

@@ -1,13 +1,11 @@
 -- What contracts see of a store that tells nothing: two counts of faults.
-use Rattle.std.specs.Prelude.{◌≡◌, ℕ, ◌≤◌, Bool, true, false, List, [], None, Some, IsTrue}
-use Rattle.std.proofs.Common.{subst}
+use Rattle.std.specs.Prelude.{◌≡◌, ℕ, ◌≤◌, Bool, true, false, [], None, Some}
 use Rattle.std.specs.Option.{is_some}
 use mathlib.Core.Bool.{false≢true}
 use Rattle.kv_model.specs.declared.call.Reply.{Reply}
-use Rattle.kv_model.specs.Constants.{Constants}
 use Rattle.kv_model.specs.Opening.{Opening}
 use Rattle.kv_model.specs.PlainStep.{plain_rules}
-use Rattle.kv_model.specs.Kv.{Clock, Crash, IsCause, IsLawful, Kind, KvState, kind_of, Ruled, FailedRead, FailedWrite, Mismatched, Wanted}
+use Rattle.kv_model.specs.Kv.{Clock, Crash, IsCause, IsLawful, Kind, KvState, Ruled, FailedRead, FailedWrite, Mismatched, Wanted}
 
 abbrev pub silent_opening : ℕ → ℕ → Opening
 silent_opening read_faults write_faults = record {

@@ -1,14 +1,16 @@
 use super::*;
 use journal_core::Journal;
 use kv_model::{Bytes, Call, Flags, Key, Kv, KvError};
+use std::alloc::Global;
+use std::process::Abort;
 use std::test::Fail;
 
-fn key(rt: &HostRuntime, bytes: &[u8]) -> Key {
+fn key(rt: &impl Abort, bytes: &[u8]) -> Key {
     Key::new(bytes).expect(rt, "a key")
 }
 
-fn bytes(rt: &HostRuntime, bytes: &[u8]) -> Bytes {
-    Bytes::new(rt.alloc(), bytes).expect(rt, "memory")
+fn copied(rt: &impl Abort, alloc: Global, bytes: &[u8]) -> Bytes {
+    Bytes::new(alloc, bytes).expect(rt, "memory")
 }
 
 // Each call takes the next refusal, where a call of its kind may be refused so, and is else done.
@@ -32,13 +34,13 @@ fn silent_store_refuses_in_turn(rt: HostRuntime) -> Result<(), Fail> {
     Ok(())
 }
 
-// Keys are kept in the order of their bytes, each with what it was given last.
+// Each key has what it was given last, and none that was taken away.
 #[test]
 fn entries_keep_the_last_value(rt: HostRuntime) -> Result<(), Fail> {
     let mut entries = Entries::new(rt.alloc());
     for name in [b"b", b"a", b"c", b"a"] {
         entries.reserve_one().expect(&rt, "memory");
-        entries.set(key(&rt, name), Flags::NONE, bytes(&rt, name));
+        entries.set(key(&rt, name), Flags::NONE, copied(&rt, rt.alloc(), name));
     }
     entries.remove(&key(&rt, b"b"));
     assert!(rt; entries.get(&key(&rt, b"b")).is_none());
@@ -56,7 +58,7 @@ fn run_notes_calls_and_replies(rt: HostRuntime) -> Result<(), Fail> {
         (
             1u8,
             Call::Remove {
-                key: bytes(&rt, b"k"),
+                key: copied(&rt, rt.alloc(), b"k"),
             },
         ),
         (2u8, Call::Finish),

@@ -1,4 +1,4 @@
-use Rattle.std.proofs.Common.{◌≡◌, ◌+◌, ◌∷◌, [], ◌++◌, ℕ, List, Result, Ok, Err, OnErr, take, sym, ◌∙◌, ap, subst, arith, ◌<◌, length, get_or}
+use Rattle.std.proofs.Common.{◌≡◌, ◌+◌, ◌∷◌, [], ◌++◌, List, Result, Ok, Err, OnErr, take, sym, ◌∙◌, ap, subst, arith, ◌<◌, length}
 use Rattle.std.proofs.lemmas.List.{append-nil, take_more}
 use Rattle.kv_model.specs.Orders.{Line}
 use Rattle.kv_memory.specs.Going.{HasGoneOn, seen}

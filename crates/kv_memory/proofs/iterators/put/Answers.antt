@@ -1,10 +1,8 @@
-use Rattle.std.proofs.Common.{◌≡◌, ℕ, List, Some, Ok, Err, length, sym, ◌∙◌, ap, subst, arith}
-use Rattle.kv_model.specs.StoreState.{Iterators, iterator_cmp}
-use Rattle.std.specs.FinMap.{insert}
-use Rattle.kv_memory.specs.declared.iterators.Slot.{Slot}
+use Rattle.std.proofs.Common.{length, sym, ◌∙◌, ap, subst, arith}
+use Rattle.kv_model.specs.StoreState.{iterator_cmp}
 use Rattle.kv_memory.specs.Places.{place_of}
-use Rattle.kv_memory.specs.SlotOf.{Rise, map_of, name_of, standing}
-use Rattle.kv_memory.proofs.IteratorMapLemmas.{absent_at, counted, found_at, got_absent, got_found, inserted, not_there, removed, replaced}
+use Rattle.kv_memory.specs.SlotOf.{Rise, map_of, name_of}
+use Rattle.kv_memory.proofs.IteratorMapLemmas.{absent_at, found_at, inserted, replaced}
 use Rattle.kv_memory.proofs.iterators.put.Goals as goal
 
 pub index_mut-requires : goal.index_mut-requires

@@ -1,4 +1,4 @@
-use Rattle.std.proofs.Common.{◌≡◌, ◌≤◌, drop, map, length}
+use Rattle.std.proofs.Common.{◌≡◌, drop, map}
 use Rattle.kv_model.specs.Sizes.{used_by}
 use Rattle.kv_memory.specs.EntryOf.{pair_of}
 use Rattle.kv_memory.proofs.walk.bytes_used.Given as goal

@@ -1,9 +1,8 @@
-use Rattle.std.proofs.Common.{◌≡◌, List, ℕ, Some, Ok, Err, length, sym, ◌∙◌, ap, subst, arith}
+use Rattle.std.proofs.Common.{◌≡◌, Some, length, sym, ◌∙◌, ap, subst, arith}
 use Rattle.std.specs.Ordering.{nat_cmp}
 use Rattle.std.specs.Cmp.Lexicographic.{slice_cmp}
 use Rattle.std.specs.FinMap.{get}
 use Rattle.kv_model.specs.FlaggedMap.{FlaggedMap}
-use Rattle.kv_memory.specs.declared.entries.Item.{Item}
 use Rattle.kv_memory.specs.EntriesState.{EntriesState}
 use Rattle.kv_memory.specs.Places.{place_of}
 use Rattle.kv_memory.specs.EntryOf.{key_of, stored_of}

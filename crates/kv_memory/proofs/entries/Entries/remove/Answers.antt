@@ -1,8 +1,7 @@
-use Rattle.std.proofs.Common.{◌≡◌, List, ℕ, Ok, Err, length, sym, ◌∙◌, ap, subst, arith}
+use Rattle.std.proofs.Common.{length, sym, ◌∙◌, ap, subst, arith}
 use Rattle.std.specs.Ordering.{nat_cmp}
 use Rattle.std.specs.Cmp.Lexicographic.{slice_cmp}
 use Rattle.std.specs.FinMap.{remove}
-use Rattle.kv_memory.specs.declared.entries.Item.{Item}
 use Rattle.kv_memory.specs.EntriesState.{EntriesState}
 use Rattle.kv_memory.specs.Places.{place_of}
 use Rattle.kv_memory.specs.EntryOf.{Rise, key_of, map_of}

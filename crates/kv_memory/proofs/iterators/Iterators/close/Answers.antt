@@ -1,10 +1,9 @@
-use Rattle.std.proofs.Common.{◌≡◌, ℕ, List, Some, Ok, Err, length, sym, ◌∙◌, ap, subst, arith}
+use Rattle.std.proofs.Common.{length, sym, ◌∙◌, ap, subst, arith}
 use Rattle.kv_model.specs.StoreState.{Iterators, iterator_cmp}
-use Rattle.std.specs.FinMap.{get, remove, len}
-use Rattle.kv_memory.specs.declared.iterators.Slot.{Slot}
+use Rattle.std.specs.FinMap.{remove}
 use Rattle.kv_memory.specs.Places.{place_of}
-use Rattle.kv_memory.specs.SlotOf.{Rise, map_of, name_of, standing}
-use Rattle.kv_memory.proofs.IteratorMapLemmas.{absent_at, counted, found_at, got_absent, got_found, inserted, not_there, removed, replaced}
+use Rattle.kv_memory.specs.SlotOf.{Rise, map_of, name_of}
+use Rattle.kv_memory.proofs.IteratorMapLemmas.{found_at, not_there, removed}
 use Rattle.kv_memory.proofs.iterators.Iterators.close.Goals as goal
 
 pub remove-requires : goal.remove-requires
