@@ -17,10 +17,13 @@ pub struct Columns {
     pub fourth: u32,
 }
 
-// A column of the state after a round: row 0 comes from column a, row 1 from b, row 2 from c, row 3 from d.
+// A column of the state after a round: row 0 comes from column a, row 1 from b, row 2 from c, row 3
+// from d.
 #[inline(always)]
 fn round_column(a: u32, b: u32, c: u32, d: u32, key: u32) -> u32
-    ensures { to_be_bytes w32 result ≡ xor_bytes (mixed_column (s_box (row_of a 0)) (s_box (row_of b 1)) (s_box (row_of c 2)) (s_box (row_of d 3))) (to_be_bytes w32 key) }
+    ensures { to_be_bytes w32 result
+        ≡ xor_bytes (mixed_column (s_box (row_of a 0)) (s_box (row_of b 1)) (s_box (row_of c 2))
+        (s_box (row_of d 3))) (to_be_bytes w32 key) }
 {
     from_first_row(a.to_be_bytes()[0])
         ^ from_second_row(b.to_be_bytes()[1])
@@ -32,7 +35,9 @@ fn round_column(a: u32, b: u32, c: u32, d: u32, key: u32) -> u32
 // The same after the last round, which mixes no columns.
 #[inline(always)]
 fn last_column(a: u32, b: u32, c: u32, d: u32, key: u32) -> u32
-    ensures { to_be_bytes w32 result ≡ xor_bytes (s_box (row_of a 0) ∷ s_box (row_of b 1) ∷ s_box (row_of c 2) ∷ s_box (row_of d 3) ∷ []) (to_be_bytes w32 key) }
+    ensures { to_be_bytes w32 result
+        ≡ xor_bytes (s_box (row_of a 0) ∷ s_box (row_of b 1) ∷ s_box (row_of c 2)
+        ∷ s_box (row_of d 3) ∷ []) (to_be_bytes w32 key) }
 {
     let bytes = [
         substituted(a.to_be_bytes()[0]),
@@ -60,7 +65,8 @@ impl Columns {
     /// A round: column n takes its row r from column n + r.
     #[inline(always)]
     pub fn round(self, key: Columns) -> Columns
-        ensures { bytes_of result ≡ add_round_key (mix_columns (shift_rows (sub_bytes (bytes_of self)))) (bytes_of key) }
+        ensures { bytes_of result ≡ add_round_key
+            (mix_columns (shift_rows (sub_bytes (bytes_of self)))) (bytes_of key) }
     {
         let Columns {
             first: a,
@@ -79,7 +85,8 @@ impl Columns {
     /// The last round.
     #[inline(always)]
     pub fn last_round(self, key: Columns) -> Columns
-        ensures { bytes_of result ≡ add_round_key (shift_rows (sub_bytes (bytes_of self))) (bytes_of key) }
+        ensures { bytes_of result ≡ add_round_key (shift_rows (sub_bytes (bytes_of self)))
+            (bytes_of key) }
     {
         let Columns {
             first: a,

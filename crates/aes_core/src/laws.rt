@@ -18,11 +18,12 @@ pub fn affine_map_of_each_bit()
     ensures { (byte i : ℕ) → byte < 256 → i < 8 → bit_of (affine byte) i ≡ affine_bit byte i }
 {}
 
-/// The words of the expanded key as the standard numbers them: each is the sum of the one four before it
-/// and of the one before it, which is turned where a round key begins.
+/// The words of the expanded key as the standard numbers them: each is the sum of the one four
+/// before it and of the one before it, which is turned where a round key begins.
 pub fn words_of_the_expanded_key()
     ensures first { (key : List ℕ) (n : ℕ) → word_at (round_key key (n + 1)) 0
-        ≡ xor_bytes (word_at (round_key key n) 0) (turned_word (round_constant n) (word_at (round_key key n) 3)) }
+        ≡ xor_bytes (word_at (round_key key n) 0)
+        (turned_word (round_constant n) (word_at (round_key key n) 3)) }
     ensures others { (key : List ℕ) (n i : ℕ) → i < 3 → word_at (round_key key (n + 1)) (i + 1)
         ≡ xor_bytes (word_at (round_key key n) (i + 1)) (word_at (round_key key (n + 1)) i) }
 {}

@@ -1,7 +1,8 @@
-//! AES-128, the block cipher of FIPS 197: a key of sixteen bytes, a block of sixteen bytes, ten rounds.
+//! AES-128, the block cipher of FIPS 197: a key of sixteen bytes, a block of sixteen bytes, ten
+//! rounds.
 //!
-//! The rounds look up tables of words, whose entries are proved against the field's arithmetic. Nothing
-//! here allocates or fails, and nothing is said of the time that a call takes.
+//! The rounds look up tables of words, whose entries are proved against the field's arithmetic.
+//! Nothing here allocates or fails, and nothing is said of the time that a call takes.
 #![tactic(auto)]
 
 ghost use Rattle.std.specs.Prelude.{◌≡◌};

@@ -180,7 +180,8 @@ pub fn substituted(a: u8) -> u8
 #[inline(always)]
 #[tactic(auto, using(crate::proofs::Entries::entries))]
 pub fn from_first_row(a: u8) -> u32
-    ensures { to_be_bytes w32 result ≡ product 2 (s_box a) ∷ s_box a ∷ s_box a ∷ product 3 (s_box a) ∷ [] }
+    ensures { to_be_bytes w32 result ≡ product 2 (s_box a) ∷ s_box a ∷ s_box a ∷ product 3 (s_box a)
+        ∷ [] }
 {
     FIRST_ROW[a as usize]
 }
@@ -189,7 +190,8 @@ pub fn from_first_row(a: u8) -> u32
 #[inline(always)]
 #[tactic(auto, using(crate::proofs::Entries::entries))]
 pub fn from_second_row(a: u8) -> u32
-    ensures { to_be_bytes w32 result ≡ product 3 (s_box a) ∷ product 2 (s_box a) ∷ s_box a ∷ s_box a ∷ [] }
+    ensures { to_be_bytes w32 result ≡ product 3 (s_box a) ∷ product 2 (s_box a) ∷ s_box a ∷ s_box a
+        ∷ [] }
 {
     SECOND_ROW[a as usize]
 }
@@ -198,7 +200,8 @@ pub fn from_second_row(a: u8) -> u32
 #[inline(always)]
 #[tactic(auto, using(crate::proofs::Entries::entries))]
 pub fn from_third_row(a: u8) -> u32
-    ensures { to_be_bytes w32 result ≡ s_box a ∷ product 3 (s_box a) ∷ product 2 (s_box a) ∷ s_box a ∷ [] }
+    ensures { to_be_bytes w32 result ≡ s_box a ∷ product 3 (s_box a) ∷ product 2 (s_box a) ∷ s_box a
+        ∷ [] }
 {
     THIRD_ROW[a as usize]
 }
@@ -207,7 +210,8 @@ pub fn from_third_row(a: u8) -> u32
 #[inline(always)]
 #[tactic(auto, using(crate::proofs::Entries::entries))]
 pub fn from_fourth_row(a: u8) -> u32
-    ensures { to_be_bytes w32 result ≡ s_box a ∷ s_box a ∷ product 3 (s_box a) ∷ product 2 (s_box a) ∷ [] }
+    ensures { to_be_bytes w32 result ≡ s_box a ∷ s_box a ∷ product 3 (s_box a) ∷ product 2 (s_box a)
+        ∷ [] }
 {
     FOURTH_ROW[a as usize]
 }

@@ -67,9 +67,11 @@ impl Area {
             (AppendsRecord (F.state flash.old).geometry.prog at
             (record { flags = flags; key = key.now; value = value.now })) (kv_ended result) }
         ensures within { RunsBy (F.state flash.old) (F.state flash.new)
-            (Within at (record_size (F.state flash.old).geometry.prog (length key.now) (length value.now)))
+            (Within at (record_size (F.state flash.old).geometry.prog (length key.now)
+            (length value.now)))
             (kv_ended result) }
-        ensures stands { OnImage (F.state flash.old).image result (λ image. (F.state flash.new).image
+        ensures stands { OnImage (F.state flash.old).image result
+            (λ image. (F.state flash.new).image
             ≡ Some (put image at (spelling_of (F.state flash.old).geometry.prog
             (record { flags = flags; key = key.now; value = value.now })))) }
     {

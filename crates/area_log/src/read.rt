@@ -104,7 +104,8 @@ impl Area {
         requires inside { IsRange self.now at 24 }
         requires zeros { buf.old ≡ replicate (length buf.old) 0 }
         ensures reads { OnlyReads (F.state flash.old) (F.state flash.new) }
-        ensures answer { ReadsValue (F.state flash.old) (F.state flash.new) at (end_of self.now - at)
+        ensures answer { ReadsValue (F.state flash.old) (F.state flash.new) at
+            (end_of self.now - at)
             offset buf.new result }
     {
         let header = read_header_at(flash, at, self.base + self.size)?;
@@ -139,7 +140,8 @@ impl Area {
         requires inside { IsRange self.now at 24 }
 
         ensures reads { OnlyReads (F.state flash.old) (F.state flash.new) }
-        ensures answer { ReadsValue (F.state flash.old) (F.state flash.new) at (end_of self.now - at)
+        ensures answer { ReadsValue (F.state flash.old) (F.state flash.new) at
+            (end_of self.now - at)
             offset buf.new result }
         ensures within { IfOk result (IsWithin offset (length buf.old)) }
         ensures zeros { OnErr result (buf.new ≡ replicate (length buf.old) 0) }

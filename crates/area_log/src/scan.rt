@@ -40,15 +40,19 @@ pub trait Visitor {
         requires area { IsAreaOf (F.state flash.old).geometry (area self.old) }
         requires inside { IsRange (area self.old) at 24 }
         requires next { IfTold (F.state flash.old).image (λ image. (before : List Found)
-            × IsNext (F.state flash.old).geometry image (area self.old) (record { at = at; key = key.now; header = header.now }) before
+            × IsNext (F.state flash.old).geometry image (area self.old)
+            (record { at = at; key = key.now; header = header.now }) before
             × stands_for self.old before) }
         ensures area { area self.new ≡ area self.old }
         ensures visits { Visits (F.state flash.old) (F.state flash.new) result }
-        ensures cause { IfErr result (IsRefusal (F.state flash.old) (F.state flash.new) (ran_out self.new)) }
+        ensures cause { IfErr result (IsRefusal (F.state flash.old) (F.state flash.new)
+            (ran_out self.new)) }
         ensures stands { IfTold (F.state flash.old).image (λ image. (before : List Found)
-            → IsNext (F.state flash.old).geometry image (area self.old) (record { at = at; key = key.now; header = header.now }) before
+            → IsNext (F.state flash.old).geometry image (area self.old)
+            (record { at = at; key = key.now; header = header.now }) before
             → stands_for self.old before
-            → OnOk result (stands_for self.new (before ++ record { at = at; key = key.now; header = header.now } ∷ []))) };
+            → OnOk result (stands_for self.new
+            (before ++ record { at = at; key = key.now; header = header.now } ∷ []))) };
 }
 
 // A key to read others into.
@@ -80,9 +84,11 @@ impl Area {
 
         ensures same { V.area visitor.new ≡ self.now }
         ensures visits { Visits (F.state flash.old) (F.state flash.new) result }
-        ensures cause { IfErr result (IsRefusal (F.state flash.old) (F.state flash.new) (V.ran_out visitor.new)) }
+        ensures cause { IfErr result (IsRefusal (F.state flash.old) (F.state flash.new)
+            (V.ran_out visitor.new)) }
         ensures end { IfOk result (IsEnd (F.state flash.old).geometry self.now) }
-        ensures all { IfTold (F.state flash.old).image (λ image. IfOk result (λ end. (list : List Found)
+        ensures all { IfTold (F.state flash.old).image
+            (λ image. IfOk result (λ end. (list : List Found)
             × IsListOf (F.state flash.old).geometry image self.now end list
             × V.stands_for visitor.new list)) }
     {

@@ -38,7 +38,9 @@ fn geometry_of(prog: u32) -> Geometry
 
 fn device_of(alloc: Global, prog: u32, image: &[u8; 512]) -> Result<RecordFlash, Fail>
     requires { IsValid (record { prog = prog; erase = 256; units_per_area = 1 }) }
-    ensures { IfOk result (λ flash. IsMemoryOf (⟦<RecordFlash as Flash>⟧.state flash) (record { prog = prog; erase = 256; units_per_area = 1 }) image.now) }
+    ensures { IfOk result (λ flash.
+        IsMemoryOf (⟦<RecordFlash as Flash>⟧.state flash)
+        (record { prog = prog; erase = 256; units_per_area = 1 }) image.now) }
 {
     let image = image.to_vec(alloc)?;
     Ok(RecordFlash::new(alloc, geometry_of(prog), image)?)
@@ -91,7 +93,8 @@ fn scanned(
     Ok((end, visitor.places))
 }
 
-// A set of key `a` and a remove of key `b`, whose payloads stand `header` bytes behind their headers.
+// A set of key `a` and a remove of key `b`, whose payloads stand `header` bytes behind their
+// headers.
 fn put_records(image: &mut [u8; 512], set: usize, remove: usize, header: usize)
     requires set { set ≤ 128 }
     requires remove { remove ≤ 128 }
@@ -103,8 +106,8 @@ fn put_records(image: &mut [u8; 512], set: usize, remove: usize, header: usize)
     image[remove + header] = 0x62;
 }
 
-// The program unit, the place of a set behind the room of the master record, that of a remove behind it, the end, and
-// the size of a header with its padding.
+// The program unit, the place of a set behind the room of the master record, that of a remove
+// behind it, the end, and the size of a header with its padding.
 const LOGS: [(u32, u32, u32, u32, u32); 3] = [
     (1, 36, 63, 88, 24),
     (8, 40, 72, 104, 24),
@@ -151,7 +154,8 @@ fn is_tail_erased(
     Ok(area.tail_is_erased(&mut flash, at, &mut work)?)
 }
 
-// With a remove at place 0, and a set at 40 whose last byte that is not 0xFF is the first of its value.
+// With a remove at place 0, and a set at 40 whose last byte that is not 0xFF is the first of its
+// value.
 #[test]
 fn a_tail_is_erased_behind_the_last_programmed_byte(rt: HostRuntime) -> Result<(), Fail> {
     let mut image = [0xff; 512];
@@ -172,7 +176,8 @@ fn a_tail_is_erased_behind_the_last_programmed_byte(rt: HostRuntime) -> Result<(
     Ok(())
 }
 
-// The stored CRC is that of the header, and the computed one its complement, which is the usual CRC-32.
+// The stored CRC is that of the header, and the computed one its complement, which is the usual
+// CRC-32.
 #[test]
 fn a_broken_header_is_told_by_its_crc_and_the_complement(rt: HostRuntime) {
     let want = KvError::Corrupt {
@@ -190,7 +195,9 @@ fn appended(
     at: u32,
     value: &[u8],
 ) -> Result<(u32, RecordFlash), Fail>
-    ensures geometry { IfOk result (λ found. (⟦<RecordFlash as Flash>⟧.state found.1).geometry ≡ record { prog = prog; erase = 256; units_per_area = 1 }) }
+    ensures geometry { IfOk result
+        (λ found. (⟦<RecordFlash as Flash>⟧.state found.1).geometry
+        ≡ record { prog = prog; erase = 256; units_per_area = 1 }) }
 {
     assert!(rt; geometry_of(prog).is_valid());
     assert!(rt; prog <= 64);
@@ -220,7 +227,8 @@ fn a_record_is_appended_whole(rt: HostRuntime) -> Result<(), Fail> {
     Ok(())
 }
 
-// What a read of the value at place 40 answers, and a buffer of four bytes of which the first `room` were lent.
+// What a read of the value at place 40 answers, and a buffer of four bytes of which the first
+// `room` were lent.
 fn read_back(
     rt: &impl Abort,
     alloc: Global,

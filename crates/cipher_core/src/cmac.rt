@@ -124,7 +124,11 @@ impl CmacStream {
     // Takes the block held back into the chain.
     fn absorb_part(&mut self)
         requires { length self.old.part ≡ 16 }
-        ensures { self.new ≡ record self.old { chain = encrypted self.old.key (xor_bytes self.old.chain self.old.part); part = [] } }
+        ensures { self.new ≡ record self.old {
+          chain = encrypted self.old.key
+              (xor_bytes self.old.chain self.old.part);
+          part = [];
+        } }
     {
         absorb(&self.cipher, &mut self.chain, &self.part);
         self.held = 0;
@@ -133,7 +137,10 @@ impl CmacStream {
     // Takes whole blocks into the chain.
     fn absorb_whole(&mut self, bytes: &[u8])
         requires { length bytes.now % 16 ≡ 0 }
-        ensures { self.new ≡ record self.old { chain = chained self.old.key self.old.chain bytes.now (length bytes.now / 16) } }
+        ensures { self.new ≡ record self.old {
+          chain = chained self.old.key self.old.chain bytes.now
+              (length bytes.now / 16);
+        } }
     {
         absorb_blocks(&self.cipher, &mut self.chain, bytes);
     }
@@ -143,7 +150,8 @@ impl CmacStream {
         ensures key { self.new.key ≡ self.old.key }
 
         // So it doesn't matter how a message is cut into pieces.
-        ensures fed { (message : List ℕ) → HasFed self.old message → HasFed self.new (message ++ bytes.now) }
+        ensures fed { (message : List ℕ) → HasFed self.old message
+            → HasFed self.new (message ++ bytes.now) }
     {
         let room = 16 - self.held;
         if bytes.len() <= room {

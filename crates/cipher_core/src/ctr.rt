@@ -10,8 +10,8 @@ use std::marker::Model;
 
 /// A text enciphered or deciphered in counter mode, piece by piece.
 ///
-/// A contract sees the key, the number of the first counter block, and the place of the next byte in the
-/// text, modulo the 16 * 2 ^ 128 bytes after which the key stream begins again.
+/// A contract sees the key, the number of the first counter block, and the place of the next byte
+/// in the text, modulo the 16 * 2 ^ 128 bytes after which the key stream begins again.
 #[derive(Drop)]
 pub struct CtrStream {
     cipher: Aes128,
@@ -63,7 +63,12 @@ fn combine_blocks(cipher: &Aes128, start: u128, number: u128, bytes: &mut [u8])
 impl CtrStream {
     /// A stream under a key, from the counter block of the text's first bytes on.
     pub fn new(key: &[u8; 16], start: &[u8; 16]) -> CtrStream
-        ensures { result ≡ record { key = key.now; start = from_be_bytes w128 start.now; place = 0 } }
+        ensures { result ≡ record {
+          key = key.now;
+          start = from_be_bytes w128 start.now;
+          place =
+              0;
+        } }
     {
         CtrStream {
             cipher: Aes128::new(key),
@@ -118,7 +123,8 @@ impl CtrStream {
         ensures state { self.new ≡ advanced self.old (length buf.old) }
 
         // So it doesn't matter how a text is cut into pieces.
-        ensures pieces { (rest : List ℕ) → text_from self.old (buf.old ++ rest) ≡ buf.new ++ text_from self.new rest }
+        ensures pieces { (rest : List ℕ)
+            → text_from self.old (buf.old ++ rest) ≡ buf.new ++ text_from self.new rest }
     {
         let left = (16 - self.used) % 16;
         if buf.len() < left {

@@ -25,8 +25,8 @@ impl Salt {
     }
 }
 
-/// The key of sixteen bytes that a root key gives for a stored key: the CMAC under the root of the byte
-/// 01, the salt's text, the key's bytes, the byte 00 and the bytes 00 80.
+/// The key of sixteen bytes that a root key gives for a stored key: the CMAC under the root of the
+/// byte 01, the salt's text, the key's bytes, the byte 00 and the bytes 00 80.
 pub fn derive(root: &[u8; 16], salt: Salt, key: &Key) -> [u8; 16]
     ensures { result ≡ derived root.now salt key.now }
 {

@@ -8,7 +8,8 @@ ghost use Rattle.cipher_core.specs.Ctr.{counter_block, ctr_text};
 /// shorter, with the front of it.
 pub fn each_block_meets_its_counter()
     ensures { (key : List ℕ) (start n : ℕ) (block : List ℕ) → length block ≤ 16
-        → ctr_text key start (16 * n) block ≡ xor_bytes block (encrypted key (counter_block start n)) }
+        → ctr_text key start (16 * n) block
+        ≡ xor_bytes block (encrypted key (counter_block start n)) }
 {
     aes_core::laws::ciphers_are_blocks();
 }

@@ -1,7 +1,8 @@
 //! Runs one kernel of the ciphers over a buffer and prints a checksum, to be timed from outside.
 //!
-//! `kv_bench KERNEL SIZE ROUNDS`: the kernel is `ctr` or `cmac`, the size is the buffer's in bytes, and
-//! the rounds are how often the kernel goes over it. The checksum is a CMAC as 32 hexadecimal digits.
+//! `kv_bench KERNEL SIZE ROUNDS`: the kernel is `ctr` or `cmac`, the size is the buffer's in bytes,
+//! and the rounds are how often the kernel goes over it. The checksum is a CMAC as 32 hexadecimal
+//! digits.
 #![tactic(auto)]
 
 mod kernels;

@@ -57,10 +57,13 @@ pub trait Host {
         ensures count { faults self.old ≤ faults self.new }
         ensures stands { contents self.new ≡ contents self.old }
         ensures within { OnOk result (vec_len out.new ≤ limit) }
-        ensures read { OnOk result (IfTold (contents self.old) (λ c. file_at name.now c ≡ Some out.new.items)) }
+        ensures read { OnOk result (IfTold (contents self.old)
+            (λ c. file_at name.now c ≡ Some out.new.items)) }
         ensures empty { OnErr result (out.new.items ≡ []) }
-        ensures calm { (names bytes : ℕ) → is_calm self.old names bytes → (result ≢ Err HostFault.Fault) × is_calm self.new names bytes }
-        ensures refused { IfErr result (ReadRefusal (contents self.old) name.now limit (faults self.old) (faults self.new)) };
+        ensures calm { (names bytes : ℕ) → is_calm self.old names bytes
+            → (result ≢ Err HostFault.Fault) × is_calm self.new names bytes }
+        ensures refused { IfErr result
+            (ReadRefusal (contents self.old) name.now limit (faults self.old) (faults self.new)) };
 
     /// Replaces the whole file, or makes it. A refused write changes nothing that is told.
     ///
@@ -68,11 +71,14 @@ pub trait Host {
     /// `Fault` alone, where the count of faults rose.
     fn write_file(&mut self, name: &str, bytes: &[u8]) -> Result<(), HostFault>
         ensures count { faults self.old ≤ faults self.new }
-        ensures written { OnOk result (contents self.new ≡ option_map (with_file name.now bytes.now) (contents self.old)) }
+        ensures written { OnOk result (contents self.new
+            ≡ option_map (with_file name.now bytes.now) (contents self.old)) }
         ensures stands { OnErr result (contents self.new ≡ contents self.old) }
-        ensures calm { (names room fewer less : ℕ) → is_calm self.old names room → fewer + 1 ≤ names → less + length bytes.now ≤ room →
+        ensures calm { (names room fewer less : ℕ) → is_calm self.old names room → fewer + 1 ≤ names
+            → less + length bytes.now ≤ room →
             length name.now ≤ 64 → IsOk result × is_calm self.new fewer less }
-        ensures refused { IfErr result (λ e. (e ≡ HostFault.Fault) × Rose (faults self.old) (faults self.new)) };
+        ensures refused { IfErr result
+            (λ e. (e ≡ HostFault.Fault) × Rose (faults self.old) (faults self.new)) };
 
     /// Prints bytes behind those printed before. A refused print has printed a prefix of them.
     ///
@@ -80,8 +86,13 @@ pub trait Host {
     /// `Fault` alone, where the count of faults rose.
     fn print(&mut self, bytes: &[u8]) -> Result<(), HostFault>
         ensures count { faults self.old ≤ faults self.new }
-        ensures printed { OnOk result (contents self.new ≡ option_map (with_printed bytes.now) (contents self.old)) }
-        ensures partly { OnErr result ((n : ℕ) × (contents self.new ≡ option_map (with_printed (take n bytes.now)) (contents self.old))) }
-        ensures calm { (names room less : ℕ) → is_calm self.old names room → less + length bytes.now ≤ room → IsOk result × is_calm self.new names less }
-        ensures refused { IfErr result (λ e. (e ≡ HostFault.Fault) × Rose (faults self.old) (faults self.new)) };
+        ensures printed { OnOk result (contents self.new
+            ≡ option_map (with_printed bytes.now) (contents self.old)) }
+        ensures partly { OnErr result ((n : ℕ)
+            × (contents self.new ≡ option_map (with_printed (take n bytes.now))
+            (contents self.old))) }
+        ensures calm { (names room less : ℕ) → is_calm self.old names room
+            → less + length bytes.now ≤ room → IsOk result × is_calm self.new names less }
+        ensures refused { IfErr result
+            (λ e. (e ≡ HostFault.Fault) × Rose (faults self.old) (faults self.new)) };
 }

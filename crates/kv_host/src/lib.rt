@@ -1,5 +1,5 @@
-//! The host: named files, and a place to print. `Host` is the trait, `MemHost` a host in memory that
-//! tells its contents and can be made to fail, and `StdHost` real files and standard output.
+//! The host: named files, and a place to print. `Host` is the trait, `MemHost` a host in memory
+//! that tells its contents and can be made to fail, and `StdHost` real files and standard output.
 #![tactic(auto)]
 
 mod count;

@@ -183,13 +183,16 @@ impl Host for MemHost {
     ghost is_calm = { IsCalm };
 
     fn read_file(&mut self, name: &str, limit: u32, out: &mut Vec<u8>) -> Result<(), HostFault>
-        ensures state { self.new ≡ (if fails_next self.old then faulted (called self.old) else called self.old) }
-        ensures calm { (names bytes : ℕ) → IsCalm self.old names bytes → (result ≢ Err HostFault.Fault) × IsCalm self.new names bytes }
+        ensures state { self.new ≡ (if fails_next self.old then faulted (called self.old) else
+            called self.old) }
+        ensures calm { (names bytes : ℕ) → IsCalm self.old names bytes
+            → (result ≢ Err HostFault.Fault) × IsCalm self.new names bytes }
         ensures failing { (result ≡ Err HostFault.Fault) ↔ (fails_next self.old ≡ true) }
         ensures within { OnOk result (vec_len out.new ≤ limit) }
         ensures read { OnOk result (file_at name.now self.old.contents ≡ Some out.new.items) }
         ensures empty { OnErr result (out.new.items ≡ []) }
-        ensures refused { IfErr result (ReadRefusal (Some self.old.contents) name.now limit self.old.faults self.new.faults) }
+        ensures refused { IfErr result
+            (ReadRefusal (Some self.old.contents) name.now limit self.old.faults self.new.faults) }
     {
         out.clear();
         if self.next_call_fails() {
@@ -202,9 +205,11 @@ impl Host for MemHost {
     }
 
     fn write_file(&mut self, name: &str, bytes: &[u8]) -> Result<(), HostFault>
-        ensures calm { (names room fewer less : ℕ) → IsCalm self.old names room → fewer + 1 ≤ names → less + length bytes.now ≤ room →
+        ensures calm { (names room fewer less : ℕ) → IsCalm self.old names room → fewer + 1 ≤ names
+            → less + length bytes.now ≤ room →
             length name.now ≤ 64 → IsOk result × IsCalm self.new fewer less }
-        ensures taken { IsOk result ↔ ((fails_next self.old ≡ false) × CanStore self.old name.now bytes.now) }
+        ensures taken { IsOk result ↔ ((fails_next self.old ≡ false)
+            × CanStore self.old name.now bytes.now) }
         ensures stored { OnOk result (self.new ≡ stored (called self.old) name.now bytes.now) }
         ensures refused { IfErr result (λ e. e ≡ HostFault.Fault) }
         ensures faulted { OnErr result (self.new ≡ faulted (called self.old)) }
@@ -217,8 +222,10 @@ impl Host for MemHost {
     }
 
     fn print(&mut self, bytes: &[u8]) -> Result<(), HostFault>
-        ensures calm { (names room less : ℕ) → IsCalm self.old names room → less + length bytes.now ≤ room → IsOk result × IsCalm self.new names less }
-        ensures taken { IsOk result ↔ ((fails_next self.old ≡ false) × (length bytes.now ≤ self.old.left)) }
+        ensures calm { (names room less : ℕ) → IsCalm self.old names room
+            → less + length bytes.now ≤ room → IsOk result × IsCalm self.new names less }
+        ensures taken { IsOk result ↔ ((fails_next self.old ≡ false)
+            × (length bytes.now ≤ self.old.left)) }
         ensures shown { OnOk result (self.new ≡ shown (called self.old) bytes.now) }
         ensures refused { IfErr result (λ e. e ≡ HostFault.Fault) }
         ensures faulted { OnErr result (self.new ≡ faulted (called self.old)) }

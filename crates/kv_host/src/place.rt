@@ -28,10 +28,12 @@ fn has_name(arena: &[u8], entry: Entry, name: &[u8]) -> bool
 
 /// The first entry that has the name.
 pub(crate) fn place_of(entries: &[Entry], arena: &[u8], name: &[u8]) -> Option<usize>
-    requires { All (λ e. IsSpan (length arena.now) e.name × IsSpan (length arena.now) e.bytes) entries.now }
+    requires { All (λ e. IsSpan (length arena.now) e.name × IsSpan (length arena.now) e.bytes)
+        entries.now }
     ensures none { IfNone result (All (λ e. name_in arena.now e ≢ name.now) entries.now) }
     ensures bound { IfSome result (λ i. i < length entries.now) }
-    ensures before { IfSome result (λ i. All (λ e. name_in arena.now e ≢ name.now) (take i entries.now)) }
+    ensures before { IfSome result
+        (λ i. All (λ e. name_in arena.now e ≢ name.now) (take i entries.now)) }
     ensures here { IfSome result (HoldsAt (λ e. name_in arena.now e ≡ name.now) entries.now) }
     ensures found { is_some result ≡ map.contains_key (files_of arena.now entries.now) name.now }
 {
@@ -72,10 +74,12 @@ fn push_entry(entries: &mut Vec<Entry>, entry: Entry)
 fn replace(entries: &mut Vec<Entry>, arena: &mut Vec<u8>, place: usize, name: &[u8], bytes: &[u8])
     requires table { IsTable arena.old.items entries.old.items }
     requires bound { place < length entries.old.items }
-    requires before { All (λ e. name_in arena.old.items e ≢ name.now) (take place entries.old.items) }
+    requires before { All (λ e. name_in arena.old.items e ≢ name.now)
+        (take place entries.old.items) }
     requires here { HoldsAt (λ e. name_in arena.old.items e ≡ name.now) entries.old.items place }
     requires room { vec_len arena.old + length bytes.now ≤ vec_capacity arena.old }
-    ensures files { files_of arena.new.items entries.new.items ≡ map.insert (files_of arena.old.items entries.old.items) name.now bytes.now }
+    ensures files { files_of arena.new.items entries.new.items
+        ≡ map.insert (files_of arena.old.items entries.old.items) name.now bytes.now }
     ensures table { IsTable arena.new.items entries.new.items }
     ensures size { vec_len arena.new ≡ vec_len arena.old + length bytes.now }
     ensures count { vec_len entries.new ≡ vec_len entries.old }
@@ -91,9 +95,11 @@ fn add(entries: &mut Vec<Entry>, arena: &mut Vec<u8>, name: &[u8], bytes: &[u8])
     requires table { IsTable arena.old.items entries.old.items }
     requires few { length entries.old.items < 8 }
     requires new { All (λ e. name_in arena.old.items e ≢ name.now) entries.old.items }
-    requires room { vec_len arena.old + length name.now + length bytes.now ≤ vec_capacity arena.old }
+    requires room { vec_len arena.old + length name.now + length bytes.now
+        ≤ vec_capacity arena.old }
     requires places { 8 ≤ vec_capacity entries.old }
-    ensures files { files_of arena.new.items entries.new.items ≡ map.insert (files_of arena.old.items entries.old.items) name.now bytes.now }
+    ensures files { files_of arena.new.items entries.new.items
+        ≡ map.insert (files_of arena.old.items entries.old.items) name.now bytes.now }
     ensures table { IsTable arena.new.items entries.new.items }
     ensures size { vec_len arena.new ≡ vec_len arena.old + length name.now + length bytes.now }
     ensures count { vec_len entries.new ≡ vec_len entries.old + 1 }
@@ -114,14 +120,21 @@ pub(crate) fn store(
 ) -> bool
     requires table { IsTable arena.old.items entries.old.items }
     requires short { length name.now ≤ 64 }
-    requires room { vec_len arena.old + length bytes.now + 64 * (8 - vec_len entries.old) ≤ vec_capacity arena.old }
+    requires room { vec_len arena.old + length bytes.now + 64 * (8 - vec_len entries.old)
+        ≤ vec_capacity arena.old }
     requires places { 8 ≤ vec_capacity entries.old }
-    ensures placed { IsTrue result ↔ HasPlace (files_of arena.old.items entries.old.items) name.now }
-    ensures stored { OnTrue result (files_of arena.new.items entries.new.items ≡ map.insert (files_of arena.old.items entries.old.items) name.now bytes.now) }
-    ensures stands { OnFalse result (files_of arena.new.items entries.new.items ≡ files_of arena.old.items entries.old.items) }
+    ensures placed { IsTrue result
+        ↔ HasPlace (files_of arena.old.items entries.old.items) name.now }
+    ensures stored { OnTrue result
+        (files_of arena.new.items entries.new.items
+        ≡ map.insert (files_of arena.old.items entries.old.items) name.now bytes.now) }
+    ensures stands { OnFalse result
+        (files_of arena.new.items entries.new.items ≡ files_of arena.old.items entries.old.items) }
     ensures table { IsTable arena.new.items entries.new.items }
-    ensures taken { OnTrue result (vec_len arena.new + 64 * (8 - vec_len entries.new) ≤ vec_len arena.old + 64 * (8 - vec_len entries.old) + length bytes.now) }
-    ensures kept { OnFalse result (vec_len arena.new + 64 * (8 - vec_len entries.new) ≤ vec_len arena.old + 64 * (8 - vec_len entries.old)) }
+    ensures taken { OnTrue result (vec_len arena.new + 64 * (8 - vec_len entries.new)
+        ≤ vec_len arena.old + 64 * (8 - vec_len entries.old) + length bytes.now) }
+    ensures kept { OnFalse result (vec_len arena.new + 64 * (8 - vec_len entries.new)
+        ≤ vec_len arena.old + 64 * (8 - vec_len entries.old)) }
     ensures arena_capacity { vec_capacity arena.old ≤ vec_capacity arena.new }
     ensures entries_capacity { vec_capacity entries.old ≤ vec_capacity entries.new }
 {
@@ -140,7 +153,8 @@ pub(crate) fn store(
 
 /// The bytes under a name.
 pub(crate) fn stored<'a>(entries: &[Entry], arena: &'a [u8], name: &[u8]) -> Option<&'a [u8]>
-    requires { All (λ e. IsSpan (length arena.now) e.name × IsSpan (length arena.now) e.bytes) entries.now }
+    requires { All (λ e. IsSpan (length arena.now) e.name × IsSpan (length arena.now) e.bytes)
+        entries.now }
     ensures { option_copied result ≡ map.get (files_of arena.now entries.now) name.now }
 {
     match place_of(entries, arena, name) {

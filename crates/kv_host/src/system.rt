@@ -36,7 +36,8 @@ impl<'a, R> StdHost<'a, R> {
         StdHost { rt, faults: 0 }
     }
 
-    /// Hands an answer on, and counts it where it is a refusal for another cause than want of memory.
+    /// Hands an answer on, and counts it where it is a refusal for another cause than want of
+    /// memory.
     fn counted(&mut self, answer: Result<(), HostFault>) -> Result<(), HostFault>
         ensures answer { result ≡ answer }
         ensures counted { self.new ≡ faults_after answer self.old }

@@ -1,4 +1,5 @@
-// The entries of a store in memory: keys with their flags and values, in the order of the keys' bytes.
+// The entries of a store in memory: keys with their flags and values, in the order of the keys'
+// bytes.
 ghost use Rattle.std.specs.Prelude.{◌≡◌, ◌≤◌, ◌<◌, ◌+◌, MatchOption, None, Some, OnOk, length, vec_capacity};
 ghost use Rattle.std.specs.List as list;
 ghost use Rattle.std.specs.Ordering.{nat_cmp};
@@ -44,7 +45,8 @@ impl Model for Entries {
     ghost invariant = { λ e. Rise e.items.items };
 }
 
-// The place of the first item whose key is not below the one that is sought, as `Ok` where it is that key.
+// The place of the first item whose key is not below the one that is sought, as `Ok` where it is
+// that key.
 fn place_in(items: &[Item], key: &Key) -> Result<usize, usize>
     ensures { result ≡ place_of (slice_cmp nat_cmp) key_of key.now items.now }
 {
@@ -90,7 +92,8 @@ impl Entries {
     /// The item of a key.
     pub fn get(&self, key: &Key) -> Option<&Item>
         ensures { MatchOption result (get self.now.map key.now ≡ None)
-            (λ item. (item.now.key ≡ key.now) × (get self.now.map key.now ≡ Some (stored_of item.now))) }
+            (λ item. (item.now.key ≡ key.now)
+            × (get self.now.map key.now ≡ Some (stored_of item.now))) }
     {
         match place_in(&self.items, key) {
             Ok(at) => Some(&self.items[at]),
@@ -101,7 +104,8 @@ impl Entries {
     /// Gives a key new flags and a new value, also one that it lacks. It takes no memory.
     pub fn set(&mut self, key: Key, flags: Flags, value: Bytes)
         requires { 1 ≤ self.old.spare }
-        ensures { self.new.map ≡ insert self.old.map key (record { flags = flags.bits; bytes = value }) }
+        ensures { self.new.map ≡ insert self.old.map key
+            (record { flags = flags.bits; bytes = value }) }
     {
         match place_in(&self.items, &key) {
             Ok(at) => {

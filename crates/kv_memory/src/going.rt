@@ -26,7 +26,8 @@ fn run_one<K: Kv>(
     requires numbers { length journal.old.entries < 4294967295 }
     ensures ran { OnOk result (HasGoneOn K.rules_by (seen (K.state store.old) journal.old.entries)
         (seen (K.state store.new) journal.new.entries) ((who, call.now) ∷ [])) }
-    ensures stopped { OnErr result (HasGoneOn K.rules_by (seen (K.state store.old) journal.old.entries)
+    ensures stopped { OnErr result
+        (HasGoneOn K.rules_by (seen (K.state store.old) journal.old.entries)
         (seen (K.state store.new) journal.new.entries) []) }
 {
     journal.reserve()?;

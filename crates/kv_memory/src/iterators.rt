@@ -42,7 +42,8 @@ impl Model for Iterators {
     ghost invariant = { λ i. Rise i.slots.items };
 }
 
-// The place of the first slot whose name is not below the one that is sought, as `Ok` where it is that name.
+// The place of the first slot whose name is not below the one that is sought, as `Ok` where it is
+// that name.
 fn place_in(slots: &[Slot], who: u8, n: u8) -> Result<usize, usize>
     ensures { result ≡ place_of iterator_cmp name_of (who, n) slots.now }
 {
@@ -70,7 +71,8 @@ fn put(slots: &mut Vec<Slot>, slot: Slot)
     requires rise { Rise slots.old.items }
     requires room { length slots.old.items < vec_capacity slots.old }
     ensures rise { Rise slots.new.items }
-    ensures map { map_of slots.new.items ≡ insert (map_of slots.old.items) (name_of slot) (standing slot) }
+    ensures map { map_of slots.new.items
+        ≡ insert (map_of slots.old.items) (name_of slot) (standing slot) }
 {
     match place_in(slots, slot.who, slot.n) {
         Ok(at) => {

@@ -1,5 +1,5 @@
-//! Stores in memory: one that tells its state, the plain program against which other stores are compared, and one that
-//! tells nothing and fails as it is told to. And callers of any stores.
+//! Stores in memory: one that tells its state, the plain program against which other stores are
+//! compared, and one that tells nothing and fails as it is told to. And callers of any stores.
 #![tactic(auto)]
 
 mod cursor;

@@ -1,4 +1,5 @@
-// Walks over the items of a store in memory: what their records take, and the next key of an iterator.
+// Walks over the items of a store in memory: what their records take, and the next key of an
+// iterator.
 ghost use Rattle.std.specs.Prelude.{◌≡◌, ◌≤◌, ◌<◌, ◌+◌, ◌^◌, Some, map, filter};
 ghost use Rattle.std.specs.Option.{option_copied};
 ghost use Rattle.base_core.specs.Sizes.{record_size};
@@ -96,7 +97,8 @@ fn lesser<'a>(hash_bits: u8, key: &'a Key, least: Option<&'a Key>) -> &'a Key
 pub fn least_of<'a>(hash_bits: u8, cursor: &Cursor, items: &'a [Item]) -> Option<&'a Key>
     requires { hash_bits ≤ 32 }
     ensures { option_copied result
-        ≡ least_key hash_bits (filter (may_give hash_bits (position_of cursor.now)) (map key_of items.now)) }
+        ≡ least_key hash_bits (filter (may_give hash_bits (position_of cursor.now))
+        (map key_of items.now)) }
 {
     let mut least = None;
     for at in (0..items.len()).rev() {

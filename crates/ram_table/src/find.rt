@@ -22,11 +22,14 @@ impl RamTable {
     // The first place whose entry has no smaller hash, by halving.
     fn first_of_hash<L: Ledger>(&self, hash: u32, steps: &mut Steps<L>) -> u32
         ensures inside { result ≤ length self.now.entries }
-        ensures below { AscendByHash self.now.entries → (i : ℕ) → i < result → (entry_at self.now.entries i).hash < hash }
-        ensures above { AscendByHash self.now.entries → (i : ℕ) → result ≤ i → i < length self.now.entries
+        ensures below { AscendByHash self.now.entries → (i : ℕ) → i < result
+            → (entry_at self.now.entries i).hash < hash }
+        ensures above { AscendByHash self.now.entries → (i : ℕ) → result ≤ i
+            → i < length self.now.entries
             → hash ≤ (entry_at self.now.entries i).hash }
         ensures not_fewer { steps.old ≤ steps.new }
-        ensures steps { (digits : ℕ) → length self.now.entries < 2 ^ digits → steps.new ≤ steps.old + digits }
+        ensures steps { (digits : ℕ) → length self.now.entries < 2 ^ digits
+            → steps.new ≤ steps.old + digits }
     {
         let mut low = 0;
         let mut high = self.len();
@@ -55,13 +58,16 @@ impl RamTable {
         requires index { IfTold (R.state reader.old).keys (λ keys.
             IsIndexOf (R.state reader.old).hash_bits keys self.now.entries) }
         requires inside { first ≤ length self.now.entries }
-        requires below { AscendByHash self.now.entries → (i : ℕ) → i < first → (entry_at self.now.entries i).hash < hash }
-        requires above { AscendByHash self.now.entries → (i : ℕ) → first ≤ i → i < length self.now.entries
+        requires below { AscendByHash self.now.entries → (i : ℕ) → i < first
+            → (entry_at self.now.entries i).hash < hash }
+        requires above { AscendByHash self.now.entries → (i : ℕ) → first ≤ i
+            → i < length self.now.entries
             → hash ≤ (entry_at self.now.entries i).hash }
         ensures kept { Keeps (R.state reader.old) (R.state reader.new) }
         ensures follows { R.may_follow reader.old reader.new }
         ensures inside { IfOk result (λ place. place.at ≤ length self.now.entries) }
-        ensures there { IfOk result (λ place. place.found ≡ true → place.at < length self.now.entries) }
+        ensures there { IfOk result (λ place. place.found ≡ true
+            → place.at < length self.now.entries) }
         ensures place { IfTold (R.state reader.old).keys (λ keys. IfOk result (λ place.
             IsPlaceOf (R.state reader.old).hash_bits keys self.now.entries key.now place)) }
         ensures cause { IfErr result (IsRefusal (R.state reader.old) (R.state reader.new)) }
@@ -87,11 +93,12 @@ impl RamTable {
         })
     }
 
-    /// Looks for a key, whose hash is the low bits of its CRC that the reader's keys have: gives the key's place, and
-    /// whether the key stands there. It refuses only with what the reader refused.
+    /// Looks for a key, whose hash is the low bits of its CRC that the reader's keys have: gives
+    /// the key's place, and whether the key stands there. It refuses only with what the reader
+    /// refused.
     ///
-    /// It looks at no more entries than the number of binary digits of the length and the number of entries with this
-    /// hash, and one.
+    /// It looks at no more entries than the number of binary digits of the length and the number of
+    /// entries with this hash, and one.
     pub fn find<R: KeyReader, L: Ledger>(
         &self,
         reader: &mut R,
@@ -106,7 +113,8 @@ impl RamTable {
         ensures kept { Keeps (R.state reader.old) (R.state reader.new) }
         ensures follows { R.may_follow reader.old reader.new }
         ensures inside { IfOk result (λ place. place.at ≤ length self.now.entries) }
-        ensures there { IfOk result (λ place. place.found ≡ true → place.at < length self.now.entries) }
+        ensures there { IfOk result (λ place. place.found ≡ true
+            → place.at < length self.now.entries) }
         ensures place { IfTold (R.state reader.old).keys (λ keys. IfOk result (λ place.
             IsPlaceOf (R.state reader.old).hash_bits keys self.now.entries key.now place)) }
         ensures cause { IfErr result (IsRefusal (R.state reader.old) (R.state reader.new)) }
@@ -150,8 +158,9 @@ impl RamTable {
         Ok(place.at)
     }
 
-    /// Looks for the first place whose key stands above a key, whose hash is the low bits of its CRC that the reader's
-    /// keys have. That place is the length where no key stands above. It refuses only with what the reader refused.
+    /// Looks for the first place whose key stands above a key, whose hash is the low bits of its
+    /// CRC that the reader's keys have. That place is the length where no key stands above. It
+    /// refuses only with what the reader refused.
     pub fn place_after<R: KeyReader>(
         &self,
         reader: &mut R,

@@ -1,8 +1,9 @@
-//! The index of a log store in memory: a list of hashes of keys and offsets of records, in the order of the keys.
+//! The index of a log store in memory: a list of hashes of keys and offsets of records, in the
+//! order of the keys.
 //!
-//! A hash is the low bits of a key's CRC. Keys are in the order of their hashes, and those with equal hashes in the
-//! order of their bytes, a prefix before what it begins. The table keeps no keys: where hashes are equal, a
-//! `KeyReader` reads the key at an offset.
+//! A hash is the low bits of a key's CRC. Keys are in the order of their hashes, and those with
+//! equal hashes in the order of their bytes, a prefix before what it begins. The table keeps no
+//! keys: where hashes are equal, a `KeyReader` reads the key at an offset.
 #![tactic(auto)]
 
 mod find;

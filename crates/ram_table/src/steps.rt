@@ -4,8 +4,8 @@ ghost use Rattle.std.specs.Prelude.{◌≡◌, ◌+◌, ◌<◌};
 use std::marker::Model;
 use std::sync::ledger::{Blank, Book, Ledger, Share};
 
-/// A counter of looks at a table. It takes no bytes: only contracts see its number, and `RamTable::look` alone raises
-/// it.
+/// A counter of looks at a table. It takes no bytes: only contracts see its number, and
+/// `RamTable::look` alone raises it.
 #[derive(Drop)]
 pub struct Steps<L: Ledger> {
     book: Book<L>,

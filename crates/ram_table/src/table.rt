@@ -81,8 +81,9 @@ impl RamTable {
         self.entry(at)
     }
 
-    /// Makes room for one entry more, so that one `insert` takes no memory. It refuses for want of memory, and where the
-    /// table has as many entries as it may have. The entries stay in any case.
+    /// Makes room for one entry more, so that one `insert` takes no memory. It refuses for want of
+    /// memory, and where the table has as many entries as it may have. The entries stay in any
+    /// case.
     pub fn reserve_one(&mut self) -> Result<(), NoMemory>
         ensures entries { self.new.entries ≡ self.old.entries }
         ensures spare { OnOk result (1 ≤ self.new.spare) }
@@ -92,8 +93,9 @@ impl RamTable {
         self.reserve(1)
     }
 
-    /// Makes room for `n` entries more, so that `n` inserts take no memory. It refuses for want of memory, and where the
-    /// table could have more entries than it may have. The entries stay in any case.
+    /// Makes room for `n` entries more, so that `n` inserts take no memory. It refuses for want of
+    /// memory, and where the table could have more entries than it may have. The entries stay in
+    /// any case.
     pub fn reserve(&mut self, n: u32) -> Result<(), NoMemory>
         ensures entries { self.new.entries ≡ self.old.entries }
         ensures spare { OnOk result (n ≤ self.new.spare) }
@@ -106,11 +108,13 @@ impl RamTable {
         Ok(self.entries.reserve(n as usize)?)
     }
 
-    /// Inserts an entry at a place up to the length; those from there on move up by one. It takes no memory.
+    /// Inserts an entry at a place up to the length; those from there on move up by one. It takes
+    /// no memory.
     pub fn insert(&mut self, at: u32, hash: u32, offset: u32)
         requires spare { 1 ≤ self.old.spare }
         requires place { at ≤ length self.old.entries }
-        ensures entries { self.new.entries ≡ insert self.old.entries at (record { hash = hash; offset = offset }) }
+        ensures entries { self.new.entries
+            ≡ insert self.old.entries at (record { hash = hash; offset = offset }) }
         ensures spare { self.new.spare + 1 ≡ self.old.spare }
     {
         let _ = self.entries.insert(at as usize, Entry { hash, offset });
@@ -120,7 +124,8 @@ impl RamTable {
     pub fn replace(&mut self, at: u32, offset: u32)
         requires { at < length self.old.entries }
         ensures entries { self.new.entries
-            ≡ slice_set self.old.entries at (record { hash = (entry_at self.old.entries at).hash; offset = offset }) }
+            ≡ slice_set self.old.entries at
+            (record { hash = (entry_at self.old.entries at).hash; offset = offset }) }
         ensures spare { self.new.spare ≡ self.old.spare }
     {
         self.entries[at as usize].offset = offset;

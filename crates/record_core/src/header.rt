@@ -75,7 +75,8 @@ impl Header {
 fn u16_at(bytes: &[u8; 24], at: usize) -> u16
     requires { at + 2 ≤ 24 }
     ensures spelled { slice_range bytes.now at (at + 2) ≡ to_le_bytes w16 result }
-    ensures only { (n : ℕ) → n < 2 ^ 16 → slice_range bytes.now at (at + 2) ≡ to_le_bytes w16 n → result ≡ n }
+    ensures only { (n : ℕ) → n < 2 ^ 16 → slice_range bytes.now at (at + 2) ≡ to_le_bytes w16 n
+        → result ≡ n }
 {
     u16::from_le_bytes([bytes[at], bytes[at + 1]])
 }
@@ -84,14 +85,16 @@ fn u16_at(bytes: &[u8; 24], at: usize) -> u16
 fn u32_at(bytes: &[u8; 24], at: usize) -> u32
     requires { at + 4 ≤ 24 }
     ensures spelled { slice_range bytes.now at (at + 4) ≡ to_le_bytes w32 result }
-    ensures only { (n : ℕ) → n < 2 ^ 32 → slice_range bytes.now at (at + 4) ≡ to_le_bytes w32 n → result ≡ n }
+    ensures only { (n : ℕ) → n < 2 ^ 32 → slice_range bytes.now at (at + 4) ≡ to_le_bytes w32 n
+        → result ≡ n }
 {
     u32::from_le_bytes([bytes[at], bytes[at + 1], bytes[at + 2], bytes[at + 3]])
 }
 
 /// The CRC of what of a header goes into it, which the key and then the value follow.
 pub fn crc_of_front(header: &Header) -> u32
-    ensures { result ≡ crc_of (header_front header.now.flags header.now.key_size header.now.value_size) }
+    ensures { result ≡ crc_of (header_front header.now.flags header.now.key_size
+        header.now.value_size) }
 {
     crc(CRC_START, &header.to_bytes()[..FRONT_SIZE])
 }
@@ -101,7 +104,8 @@ pub fn crc_of_front(header: &Header) -> u32
 /// 20 bytes, the key and the value.
 pub fn write_header(out: &mut [u8; 24], key: &Key, value_size: u32, flags: u32, crc: u32)
     requires { IsHeader flags (length key.now) value_size }
-    ensures { out.new ≡ header_bytes (record { flags = flags; key_size = length key.now; value_size = value_size; crc = crc }) }
+    ensures { out.new ≡ header_bytes
+        (record { flags = flags; key_size = length key.now; value_size = value_size; crc = crc }) }
 {
     let key_size = key.as_slice().len() as u16;
     let header = Header {
@@ -126,7 +130,8 @@ fn has_form(bytes: &[u8; 24]) -> bool
 // The fields that headers don't share, whatever else the bytes are.
 fn fields_of(bytes: &[u8; 24]) -> Header
     ensures spelled { HasFields bytes.now result }
-    ensures only { (header : Header) → IsValid header → HasFields bytes.now header → result ≡ record header { crc = header.crc % 2 ^ 32 } }
+    ensures only { (header : Header) → IsValid header → HasFields bytes.now header
+        → result ≡ record header { crc = header.crc % 2 ^ 32 } }
 {
     Header {
         flags: u32_at(bytes, 8),
@@ -140,8 +145,10 @@ fn fields_of(bytes: &[u8; 24]) -> Header
 /// fails; nothing is said of the CRC.
 pub fn read_header(bytes: &[u8; 24]) -> Option<Header>
     ensures found { IfSome result (λ header. IsValid header × (bytes.now ≡ header_bytes header)) }
-    ensures some { (header : Header) → IsValid header → bytes.now ≡ header_bytes header → IsSome result }
-    ensures only { (header : Header) → IsValid header → header.crc < 2 ^ 32 → bytes.now ≡ header_bytes header → result ≡ Some header }
+    ensures some { (header : Header) → IsValid header → bytes.now ≡ header_bytes header
+        → IsSome result }
+    ensures only { (header : Header) → IsValid header → header.crc < 2 ^ 32
+        → bytes.now ≡ header_bytes header → result ≡ Some header }
 {
     if !has_form(bytes) {
         return None;

@@ -77,7 +77,8 @@ pub fn read_header_at<F: Flash>(flash: &mut F, place: u32, end: u32) -> Result<H
     requires header { place + 24 ≤ end }
     requires inside { end ≤ size_of (F.state flash.old).geometry }
     ensures reads { OnlyReads (F.state flash.old) (F.state flash.new) }
-    ensures answer { ReadsHeader (F.state flash.old) (F.state flash.new) place (end - place) result }
+    ensures answer { ReadsHeader (F.state flash.old) (F.state flash.new) place (end - place)
+        result }
 {
     let head = read_head_at(flash, place, end)?;
     Ok(head.header)
@@ -90,7 +91,8 @@ fn read_name<F: Flash>(flash: &mut F, place: u32, size: u16) -> Result<Option<Ke
     ensures reads { HasRead (F.state flash.old) (F.state flash.new) result }
     ensures found { IfOk result (λ found. (bytes : List ℕ)
         × IsSeen (F.state flash.old) place size bytes
-        × MatchOption found (IsTrue (is_key bytes) → ⊥) (λ key. (key ≡ bytes) × IsTrue (is_key bytes))) }
+        × MatchOption found (IsTrue (is_key bytes) → ⊥)
+        (λ key. (key ≡ bytes) × IsTrue (is_key bytes))) }
 {
     let mut buffer = [0; 128];
     let bytes = &mut buffer[..size as usize];

@@ -16,9 +16,11 @@ fn copy_at(units: &mut [u8], at: usize, bytes: &[u8])
 // Of bytes that stand from `start` on, those in the range of `units`, which begins at `from`.
 fn overlay(units: &mut [u8], from: usize, start: usize, bytes: &[u8])
     requires limits { from + length units.old + (start + length bytes.now) < 2 ^ 32 }
-    ensures inside { (i : ℕ) → i < length units.old → start ≤ from + i → from + i < start + length bytes.now
+    ensures inside { (i : ℕ) → i < length units.old → start ≤ from + i
+        → from + i < start + length bytes.now
         → slice_index units.new i ≡ slice_index bytes.now (from + i - start) }
-    ensures outside { (i : ℕ) → i < length units.old → (from + i < start) ⊎ (start + length bytes.now ≤ from + i)
+    ensures outside { (i : ℕ) → i < length units.old → (from + i < start)
+        ⊎ (start + length bytes.now ≤ from + i)
         → slice_index units.new i ≡ slice_index units.old i }
 {
     let first = from.max(start);
@@ -32,7 +34,8 @@ fn overlay(units: &mut [u8], from: usize, start: usize, bytes: &[u8])
 pub(crate) fn fill_payload(units: &mut [u8], from: usize, key: &[u8], value: &[u8])
     requires sizes { length key.now + length value.now ≤ 65720 }
     requires limits { from + length units.old < 2 ^ 31 }
-    ensures { (prog : ℕ) → 1 ≤ prog → from + length units.old ≤ up prog (length key.now + length value.now)
+    ensures { (prog : ℕ) → 1 ≤ prog
+        → from + length units.old ≤ up prog (length key.now + length value.now)
         → units.new ≡ part (record_payload prog key.now value.now) from (length units.old) }
 {
     units.fill(ERASED);

@@ -18,7 +18,8 @@ const ERASED: u8 = 0xFF;
 pub fn read_part<F: Flash>(flash: &mut F, place: u32, buf: &mut [u8]) -> Result<(), KvError>
     requires { place + length buf.old ≤ size_of (F.state flash.old).geometry }
     ensures reads { HasRead (F.state flash.old) (F.state flash.new) result }
-    ensures bytes { IfTold (F.state flash.old).image (λ image. OnOk result (buf.new ≡ part image place (length buf.old))) }
+    ensures bytes { IfTold (F.state flash.old).image
+        (λ image. OnOk result (buf.new ≡ part image place (length buf.old))) }
 {
     match flash.read(place, buf) {
         Ok(()) => Ok(()),
@@ -36,7 +37,8 @@ pub fn crc_of_piece<F: Flash>(
 ) -> Result<u32, KvError>
     requires { place + length piece.old ≤ size_of (F.state flash.old).geometry }
     ensures reads { HasRead (F.state flash.old) (F.state flash.new) result }
-    ensures bytes { IfTold (F.state flash.old).image (λ image. OnOk result (piece.new ≡ part image place (length piece.old))) }
+    ensures bytes { IfTold (F.state flash.old).image
+        (λ image. OnOk result (piece.new ≡ part image place (length piece.old))) }
     ensures sum { IfOk result (λ sum. sum ≡ crc_from start piece.new) }
 {
     read_part(flash, place, piece)?;

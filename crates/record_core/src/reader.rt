@@ -39,7 +39,8 @@ fn is_padded_to_units<F: Flash>(
     requires most { prog ≤ 4096 }
     ensures reads { HasRead (F.state flash.old) (F.state flash.new) result }
     ensures padded { IfTold (F.state flash.old).image (λ image. IfOk result (λ is_padded.
-        IsTrue is_padded ↔ (part image (place + size) (up prog size - size) ≡ replicate (up prog size - size) 255))) }
+        IsTrue is_padded ↔ (part image (place + size) (up prog size - size)
+        ≡ replicate (up prog size - size) 255))) }
 {
     let padding = padded_size(prog, size) - size;
     is_padding(flash, place + size, &mut work[..padding as usize])
@@ -54,7 +55,8 @@ fn is_padded<F: Flash>(
 ) -> Result<bool, KvError>
     requires valid { IsValid (F.state flash.old).geometry }
     requires unit { (F.state flash.old).geometry.prog ≤ length work.old }
-    requires inside { place + (up (F.state flash.old).geometry.prog 24 + up (F.state flash.old).geometry.prog size)
+    requires inside { place + (up (F.state flash.old).geometry.prog 24 + up
+        (F.state flash.old).geometry.prog size)
         ≤ size_of (F.state flash.old).geometry }
     ensures reads { HasRead (F.state flash.old) (F.state flash.new) result }
     ensures padded { IfTold (F.state flash.old).image (λ image. IfOk result (λ is_padded.
@@ -72,10 +74,13 @@ fn is_padded<F: Flash>(
 pub(crate) fn header_within(bytes: &[u8; 24], prog: u32, room: u32) -> Option<Header>
     requires prog_is_power { IsTrue (is_power_of_two prog) }
     requires prog_most { prog ≤ 4096 }
-    ensures valid { IfSome result (λ header. IsHeader header.flags header.key_size header.value_size) }
+    ensures valid { IfSome result (λ header.
+        IsHeader header.flags header.key_size header.value_size) }
     ensures spelled { IfSome result (λ header. bytes.now ≡ header_bytes header) }
-    ensures within { IfSome result (λ header. record_size prog header.key_size header.value_size ≤ room) }
-    ensures none { (header : Header) → IsHeader header.flags header.key_size header.value_size → bytes.now ≡ header_bytes header
+    ensures within { IfSome result
+        (λ header. record_size prog header.key_size header.value_size ≤ room) }
+    ensures none { (header : Header) → IsHeader header.flags header.key_size header.value_size
+        → bytes.now ≡ header_bytes header
         → IsNone result → room < record_size prog header.key_size header.value_size }
 {
     let header = read_header(bytes)?;
@@ -89,11 +94,14 @@ fn read_head<F: Flash>(flash: &mut F, place: u32, end: u32) -> Result<Option<Hea
     requires from { place ≤ end }
     requires to { end ≤ size_of (F.state flash.old).geometry }
     ensures reads { HasRead (F.state flash.old) (F.state flash.new) result }
-    ensures valid { IfOk result (λ found. IfSome found (λ header. IsHeader header.flags header.key_size header.value_size)) }
+    ensures valid { IfOk result (λ found.
+        IfSome found (λ header. IsHeader header.flags header.key_size header.value_size)) }
     ensures inside { IfOk result (λ found. IfSome found (λ header.
-        place + record_size (F.state flash.old).geometry.prog header.key_size header.value_size ≤ end)) }
+        place + record_size (F.state flash.old).geometry.prog header.key_size header.value_size
+        ≤ end)) }
     ensures found { IfTold (F.state flash.old).image (λ image. IfOk result (λ found.
-        MatchOption found (HasNoRecord (F.state flash.old).geometry.prog image place end) (λ header. part image place 24 ≡ header_bytes header))) }
+        MatchOption found (HasNoRecord (F.state flash.old).geometry.prog image place end)
+        (λ header. part image place 24 ≡ header_bytes header))) }
 {
     if end - place < HEADER_SIZE {
         return Ok(None);
@@ -111,7 +119,8 @@ fn read_key<F: Flash>(flash: &mut F, place: u32, size: u16) -> Result<Option<Key
     ensures reads { HasRead (F.state flash.old) (F.state flash.new) result }
     ensures size { IfOk result (λ found. IfSome found (λ key. length key ≡ size)) }
     ensures found { IfTold (F.state flash.old).image (λ image. IfOk result (λ found.
-        MatchOption found (IsTrue (is_key (part image place size)) → ⊥) (λ key. key ≡ part image place size))) }
+        MatchOption found (IsTrue (is_key (part image place size)) → ⊥)
+        (λ key. key ≡ part image place size))) }
     ensures key { IfOk result (λ found. IfSome found (λ key. IsTrue (is_key key))) }
 {
     let mut buffer = [0; 128];
@@ -136,7 +145,8 @@ fn crc_of_record<F: Flash>(
     requires some { 1 ≤ length work.old }
     ensures reads { HasRead (F.state flash.old) (F.state flash.new) result }
     ensures sum { IfTold (F.state flash.old).image (λ image. IfOk result (λ sum.
-        sum ≡ crc_of (header_front header.now.flags header.now.key_size header.now.value_size ++ key.now
+        sum ≡ crc_of (header_front header.now.flags header.now.key_size header.now.value_size
+        ++ key.now
         ++ part image place header.now.value_size))) }
 {
     let before = crc(crc_of_front(header), key.as_slice());
@@ -154,10 +164,12 @@ fn is_whole<F: Flash>(
     requires valid { IsValid (F.state flash.old).geometry }
     requires unit { (F.state flash.old).geometry.prog ≤ length work.old }
     requires least { 64 ≤ length work.old }
-    requires header { IsFitting (F.state flash.old).geometry.prog place (size_of (F.state flash.old).geometry) key.now header.now }
+    requires header { IsFitting (F.state flash.old).geometry.prog place
+        (size_of (F.state flash.old).geometry) key.now header.now }
     ensures reads { HasRead (F.state flash.old) (F.state flash.new) result }
     ensures whole { IfTold (F.state flash.old).image (λ image. IfOk result (λ is_whole.
-        IsTrue is_whole ↔ IsWhole (F.state flash.old).geometry.prog image place key.now header.now)) }
+        IsTrue is_whole ↔ IsWhole (F.state flash.old).geometry.prog image place key.now
+        header.now)) }
     ensures fits { IfTold (F.state flash.old).image (λ image. IfOk result (λ is_whole.
         crc_read (F.state flash.old).geometry.prog image place key.now header.now < 2 ^ 32)) }
 {
@@ -193,7 +205,8 @@ pub fn read_record<F: Flash>(
     ensures found { IfTold (F.state flash.old).image (λ image. IfOk result (λ found.
         RecordAt (F.state flash.old).geometry.prog image place end key.new found)) }
     // also where the device tells nothing
-    ensures fitting { IfOk result (λ found. IfSome found (IsFitting (F.state flash.old).geometry.prog place end key.new)) }
+    ensures fitting { IfOk result (λ found.
+        IfSome found (IsFitting (F.state flash.old).geometry.prog place end key.new)) }
 {
     let header = match read_head(flash, place, end)? {
         Some(header) => header,
@@ -235,9 +248,11 @@ fn payload_of_master(version: u16) -> [u8; 12]
 // The version of the master record that has this header and payload. None comes exactly where none
 // has.
 fn version_of(header: &[u8; 24], payload: &[u8; 12]) -> Option<u16>
-    ensures header { IfSome result (λ version. header.now ≡ header_bytes (header_of 0 master_key (master_value version))) }
+    ensures header { IfSome result
+        (λ version. header.now ≡ header_bytes (header_of 0 master_key (master_value version))) }
     ensures payload { IfSome result (λ version. payload.now ≡ master_key ++ master_value version) }
-    ensures only { (version : ℕ) → version < 2 ^ 16 → header.now ≡ header_bytes (header_of 0 master_key (master_value version))
+    ensures only { (version : ℕ) → version < 2 ^ 16
+        → header.now ≡ header_bytes (header_of 0 master_key (master_value version))
         → payload.now ≡ master_key ++ master_value version → result ≡ Some version }
 {
     let version = u16::from_le_bytes([payload[4], payload[5]]);
@@ -264,7 +279,8 @@ pub fn read_master<F: Flash>(
     requires least { 64 ≤ length work.old }
 
     ensures reads { HasRead (F.state flash.old) (F.state flash.new) result }
-    ensures found { IfTold (F.state flash.old).image (λ image. IfOk result (MasterAt (F.state flash.old).geometry.prog image area)) }
+    ensures found { IfTold (F.state flash.old).image
+        (λ image. IfOk result (MasterAt (F.state flash.old).geometry.prog image area)) }
 {
     let behind = area + padded_size(flash.geometry().prog, HEADER_SIZE);
     let mut header = [0; 24];

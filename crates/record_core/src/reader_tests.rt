@@ -190,7 +190,8 @@ fn a_master_has_any_version(rt: HostRuntime) -> Result<(), Fail> {
     Ok(())
 }
 
-// A changed byte in each part, and three masters with the right CRC but for flags, a revision or a zero.
+// A changed byte in each part, and three masters with the right CRC but for flags, a revision or a
+// zero.
 #[test]
 fn other_bytes_are_no_master(rt: HostRuntime) -> Result<(), Fail> {
     let right = [0xaa, 0x37, 0xf7, 0x1e];

@@ -14,8 +14,8 @@ pub fn padded_size(prog: u32, size: u32) -> u32
     (size + (prog - 1)) / prog * prog
 }
 
-/// The bytes that a record takes with a key and a value of these sizes: its header and then both, each in whole
-/// program units.
+/// The bytes that a record takes with a key and a value of these sizes: its header and then both,
+/// each in whole program units.
 pub fn size_of_record(prog: u32, key_size: u32, value_size: u32) -> u32
     requires prog_is_power { IsTrue (is_power_of_two prog) }
     requires prog_most { prog ≤ 4096 }

@@ -47,8 +47,10 @@ fn program_padded<F: Flash>(
     requires valid { IsValid (F.state flash.old).geometry }
     requires short { length bytes.now ≤ 65536 }
     requires room { up (F.state flash.old).geometry.prog (length bytes.now) ≤ length work.old }
-    requires can { CanProgram (F.state flash.old) place (up (F.state flash.old).geometry.prog (length bytes.now)) }
-    ensures { Writes (F.state flash.old) (F.state flash.new) place (padded (F.state flash.old).geometry.prog bytes.now) result }
+    requires can { CanProgram (F.state flash.old) place
+        (up (F.state flash.old).geometry.prog (length bytes.now)) }
+    ensures { Writes (F.state flash.old) (F.state flash.new) place
+        (padded (F.state flash.old).geometry.prog bytes.now) result }
 {
     let prog = flash.geometry().prog;
     let size = padded_size(prog, bytes.len() as u32) as usize;
@@ -75,10 +77,13 @@ fn program_piece<F: Flash>(
 ) -> Result<(), FlashFault>
     requires valid { IsValid (F.state flash.old).geometry }
     requires limits { length payload.now.key.now + length payload.now.value.now ≤ 65720 }
-    requires within { from + length work.old ≤ up (F.state flash.old).geometry.prog (length payload.now.key.now + length payload.now.value.now) }
+    requires within { from + length work.old
+        ≤ up (F.state flash.old).geometry.prog
+        (length payload.now.key.now + length payload.now.value.now) }
     requires can { CanProgram (F.state flash.old) (place + from) (length work.old) }
     ensures { Writes (F.state flash.old) (F.state flash.new) (place + from)
-        (part (record_payload (F.state flash.old).geometry.prog payload.now.key.now payload.now.value.now) from (length work.old)) result }
+        (part (record_payload (F.state flash.old).geometry.prog payload.now.key.now
+        payload.now.value.now) from (length work.old)) result }
 {
     fill_payload(work, from as usize, payload.key, payload.value);
     flash.program(place + from, work)
@@ -94,10 +99,13 @@ fn program_payload<F: Flash>(
     requires valid { IsValid (F.state flash.old).geometry }
     requires limits { length payload.now.key.now + length payload.now.value.now ≤ 65720 }
     requires unit { (F.state flash.old).geometry.prog ≤ length work.old }
-    requires can { CanWrite (F.state flash.old) place (up (F.state flash.old).geometry.prog (length payload.now.key.now + length payload.now.value.now)) }
+    requires can { CanWrite (F.state flash.old) place
+        (up (F.state flash.old).geometry.prog
+        (length payload.now.key.now + length payload.now.value.now)) }
     ensures runs { RunsBy (F.state flash.old) (F.state flash.new)
         (Ascends (F.state flash.old).geometry.prog place
-        (record_payload (F.state flash.old).geometry.prog payload.now.key.now payload.now.value.now))
+        (record_payload (F.state flash.old).geometry.prog payload.now.key.now
+        payload.now.value.now))
         (ended result) }
     ensures fault { IfErr result (λ fault. fault ≡ FlashFault.Write) }
     ensures written { OnImage (F.state flash.old).image result (λ image. (F.state flash.new).image
@@ -152,7 +160,8 @@ fn program_record<F: Flash>(
     requires unit { (F.state flash.old).geometry.prog ≤ length work.old }
     requires least { 64 ≤ length work.old }
     requires can { CanWrite (F.state flash.old) place
-        (record_size (F.state flash.old).geometry.prog (length payload.now.key.now) (length payload.now.value.now)) }
+        (record_size (F.state flash.old).geometry.prog (length payload.now.key.now)
+        (length payload.now.value.now)) }
     ensures runs { RunsBy (F.state flash.old) (F.state flash.new)
         (AppendsRecord (F.state flash.old).geometry.prog place
         (record { flags = flags; key = payload.now.key.now; value = payload.now.value.now }))
@@ -234,7 +243,8 @@ pub fn write_master<F: Flash>(
         IsErased image area (master_size (F.state flash.old).geometry.prog)) }
 
     ensures runs { RunsBy (F.state flash.old) (F.state flash.new)
-        (AppendsRecord (F.state flash.old).geometry.prog area (master_of version)) (kv_ended result) }
+        (AppendsRecord (F.state flash.old).geometry.prog area (master_of version))
+        (kv_ended result) }
     ensures fault { IfErr result (λ e. e ≡ WriteFault) }
     ensures written { OnImage (F.state flash.old).image result (λ image. (F.state flash.new).image
         ≡ Some (put image area (master_bytes (F.state flash.old).geometry.prog version))) }

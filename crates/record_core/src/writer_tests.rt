@@ -18,7 +18,8 @@ const SMALL: Geometry = Geometry {
 
 fn erased_device(alloc: Global) -> Result<RecordFlash, Fail>
     requires { IsValid SMALL }
-    ensures { IfOk result (λ flash. IsMemoryOf (⟦<RecordFlash as Flash>⟧.state flash) SMALL (replicate 512 255)) }
+    ensures { IfOk result (λ flash.
+        IsMemoryOf (⟦<RecordFlash as Flash>⟧.state flash) SMALL (replicate 512 255)) }
 {
     let image = vec![in alloc; 0xFF; 512]?;
     Ok(RecordFlash::new(alloc, SMALL, image)?)

@@ -88,14 +88,14 @@ module _ (old new : FlashState) (area : Area) (hash_bits offset : ℕ) (can : Ca
   refusal_of_read e (inr (inl broken)) = subst (IsRefusal (keys_of old area hash_bits) (keys_of new area hash_bits)) (sym broken.is) (
     λ same. omega (arith, same),
     mapped_none (keys_in old.geometry area) old.image (λ image told.
-    let key = spelled image told in
-    broken.none (low_crc key.1.header) (head_spelled image told key.0 key.1 broken.bytes (broken.seen.told image told))),
+        let key = spelled image told in
+        broken.none (low_crc key.1.header) (head_spelled image told key.0 key.1 broken.bytes (broken.seen.told image told))),
   )
   refusal_of_read e (inr (inr broken)) = subst (IsRefusal (keys_of old area hash_bits) (keys_of new area hash_bits)) (sym broken.is) (
     λ same. omega (arith, same),
     mapped_none (keys_in old.geometry area) old.image (λ image told.
-    let key = spelled image told in
-    broken.no_key (subst (λ (k : List ℕ). IsTrue (is_key k)) (sym (key_spelled_is image told key.0 broken.key key.1 broken.header broken.head (broken.seen.told image told))) key.1.is_key)),
+        let key = spelled image told in
+        broken.no_key (subst (λ (k : List ℕ). IsTrue (is_key k)) (sym (key_spelled_is image told key.0 broken.key key.1 broken.header broken.head (broken.seen.told image told))) key.1.is_key)),
   )
 
   pub key_read : (out : List ℕ) → KeySeen old offset (end_of area - offset) out → (keys : KeyMap) → option_map (keys_in old.geometry area) old.image ≡ Some keys → get keys offset ≡ Some out

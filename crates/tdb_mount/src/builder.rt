@@ -43,10 +43,13 @@ pub fn place_of<L: Ledger, F: Flash>(
         IsIndexOf hash_bits (keys_in (F.state flash.old).geometry area image) table.now.entries) }
     ensures reads { OnlyReads (F.state flash.old) (F.state flash.new) }
     ensures inside { IfOk result (λ place. place.at ≤ length table.now.entries) }
-    ensures there { IfOk result (λ place. place.found ≡ true → place.at < length table.now.entries) }
+    ensures there { IfOk result (λ place. place.found ≡ true
+        → place.at < length table.now.entries) }
     ensures place { IfTold (F.state flash.old).image (λ image. IfOk result (λ place.
-        IsPlaceOf hash_bits (keys_in (F.state flash.old).geometry area image) table.now.entries key.now place)) }
-    ensures cause { IfErr result (IsRefusal (keys_of (F.state flash.old) area hash_bits) (keys_of (F.state flash.new) area hash_bits)) }
+        IsPlaceOf hash_bits (keys_in (F.state flash.old).geometry area image) table.now.entries
+        key.now place)) }
+    ensures cause { IfErr result (IsRefusal (keys_of (F.state flash.old) area hash_bits)
+        (keys_of (F.state flash.new) area hash_bits)) }
 {
     let mut reader = DeviceKeys {
         flash,
@@ -121,7 +124,8 @@ impl<B: HashBits> Builder<B> {
     fn reserve(&mut self) -> Result<(), KvError>
         ensures entries { self.new.table.entries ≡ self.old.table.entries }
         ensures spare { OnOk result (1 ≤ self.new.table.spare) }
-        ensures room { OnOk result (length self.new.table.entries + 1 ≤ length self.new.spare.entries + self.new.spare.spare) }
+        ensures room { OnOk result (length self.new.table.entries + 1
+            ≤ length self.new.spare.entries + self.new.spare.spare) }
         ensures area { self.new.area ≡ self.old.area }
         ensures bits { self.new.hash_bits ≡ self.old.hash_bits }
         ensures only { IfErr result (λ e. e ≡ Memory) }
@@ -141,7 +145,8 @@ impl<B: HashBits> Builder<B> {
         requires there { place.found ≡ true → place.at < length self.old.table.entries }
         requires from { self.old.area.base ≤ at }
         requires to { at + 24 ≤ end_of self.old.area }
-        ensures entries { OnOk result (self.new.table.entries ≡ changed self.old.table.entries place hash at is_remove) }
+        ensures entries { OnOk result (self.new.table.entries
+            ≡ changed self.old.table.entries place hash at is_remove) }
         ensures area { self.new.area ≡ self.old.area }
         ensures bits { self.new.hash_bits ≡ self.old.hash_bits }
         ensures only { IfErr result (λ e. e ≡ Memory) }

@@ -17,8 +17,10 @@ ghost use Rattle.tdb_mount.specs.Keys.{SpellsKey, keys_in};
 
 /// What a mount leaves of an image mounts to the map that the image had.
 pub fn mounting_keeps_the_map()
-    ensures { (g : Geometry) (image left : List ℕ) (map : FlaggedMap) → IsValid g → length image ≡ size_of g
-        → Leaves {T = Unit {0}} {E = Unit {0}} g image left (Ok tt) → Mounts g image map → Mounts g left map }
+    ensures { (g : Geometry) (image left : List ℕ) (map : FlaggedMap) → IsValid g
+        → length image ≡ size_of g
+        → Leaves {T = Unit {0}} {E = Unit {0}} g image left (Ok tt) → Mounts g image map
+        → Mounts g left map }
 {}
 
 /// Versions count in a circle: behind 65,535 comes 0.
@@ -26,11 +28,14 @@ pub fn versions_count_in_a_circle()
     ensures first_is_next { active_area (Some 0) (Some 65535) ≡ Some 0 }
     ensures second_is_next { active_area (Some 65535) (Some 0) ≡ Some 1 }
     ensures neither_is { active_area (Some 5) (Some 9) ≡ Some 0 }
-    ensures next { (version : ℕ) → version < 2 ^ 16 → active_area (Some version) (Some ((version + 1) % 2 ^ 16)) ≡ Some 1 }
-    ensures previous { (version : ℕ) → version < 2 ^ 16 → active_area (Some ((version + 1) % 2 ^ 16)) (Some version) ≡ Some 0 }
+    ensures next { (version : ℕ) → version < 2 ^ 16
+        → active_area (Some version) (Some ((version + 1) % 2 ^ 16)) ≡ Some 1 }
+    ensures previous { (version : ℕ) → version < 2 ^ 16
+        → active_area (Some ((version + 1) % 2 ^ 16)) (Some version) ≡ Some 0 }
 {}
 
-/// The last record of a key has the key's place, or takes it away where it is a remove, and moves no other key.
+/// The last record of a key has the key's place, or takes it away where it is a remove, and moves
+/// no other key.
 pub fn last_record_has_the_place()
     ensures placed { (list : List Found) (found : Found) → found.header.flags ≢ remove_flags
         → get (places_of (list ++ found ∷ [])) found.key ≡ Some found.at }
@@ -40,11 +45,14 @@ pub fn last_record_has_the_place()
         → get (places_of (list ++ found ∷ [])) key ≡ get (places_of list) key }
 {}
 
-/// A reader over a device tells the keys that the bytes of its area spell, and no others. Each record of the area is
-/// among them.
+/// A reader over a device tells the keys that the bytes of its area spell, and no others. Each
+/// record of the area is among them.
 pub fn keys_are_told_as_spelled()
     ensures spelled { (g : Geometry) (area : Area) (image key : List ℕ) (place : ℕ) → 1 ≤ g.prog
-        → (get (keys_in g area image) place ≡ Some key) ↔ SpellsKey g.prog image (end_of area) place key }
-    ensures records { (g : Geometry) (area : Area) (image : List ℕ) (place : ℕ) (r : Write) → 1 ≤ g.prog
-        → IsRecordAt g.prog image place r → place + extent g.prog r ≤ end_of area → get (keys_in g area image) place ≡ Some r.key }
+        → (get (keys_in g area image) place ≡ Some key)
+        ↔ SpellsKey g.prog image (end_of area) place key }
+    ensures records { (g : Geometry) (area : Area) (image : List ℕ) (place : ℕ) (r : Write)
+        → 1 ≤ g.prog
+        → IsRecordAt g.prog image place r → place + extent g.prog r ≤ end_of area
+        → get (keys_in g area image) place ≡ Some r.key }
 {}

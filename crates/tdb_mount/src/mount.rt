@@ -90,7 +90,8 @@ fn read_active<F: Flash>(flash: &mut F, work: &mut [u8]) -> Result<Option<Active
     requires least { 64 ≤ length work.old }
     ensures reads { HasRead (F.state flash.old) (F.state flash.new) result }
     ensures number { IfOk result (λ found. IfSome found (λ active. active.number ≤ 1)) }
-    ensures chosen { IfTold (F.state flash.old).image (λ image. IfOk result (ChosenIn (F.state flash.old).geometry image)) }
+    ensures chosen { IfTold (F.state flash.old).image
+        (λ image. IfOk result (ChosenIn (F.state flash.old).geometry image)) }
 {
     let geometry = flash.geometry();
     let first = read_master(flash, 0, work)?;
@@ -107,9 +108,11 @@ fn find_active<F: Flash>(flash: &mut F, work: &mut [u8]) -> Result<Active, KvErr
         (MountsBy (F.state flash.old).geometry) (kv_ended result) }
     ensures cause { IfErr result (IsRefusal (F.state flash.old) (F.state flash.new)) }
     ensures number { IfOk result (λ active. active.number ≤ 1) }
-    ensures leaves { IfTold (F.state flash.old).image (λ image. IfTold (F.state flash.new).image (λ left.
+    ensures leaves { IfTold (F.state flash.old).image
+        (λ image. IfTold (F.state flash.new).image (λ left.
         Leaves (F.state flash.old).geometry image left result)) }
-    ensures active { IfTold (F.state flash.new).image (λ image. IfOk result (IsActiveIn (F.state flash.old).geometry image)) }
+    ensures active { IfTold (F.state flash.new).image
+        (λ image. IfOk result (IsActiveIn (F.state flash.old).geometry image)) }
 {
     match read_active(flash, work)? {
         Some(active) => Ok(active),
@@ -137,11 +140,13 @@ fn walk<B: HashBits, F: Flash>(
     requires bits { hash_bits ≤ 32 }
     requires same { hash_bits ≡ B.bits }
     requires number { active.number ≤ 1 }
-    requires active { IfTold (F.state flash.old).image (λ image. IsActiveIn (F.state flash.old).geometry image active) }
+    requires active { IfTold (F.state flash.old).image
+        (λ image. IsActiveIn (F.state flash.old).geometry image active) }
     ensures visits { Visits (F.state flash.old) (F.state flash.new) result }
     ensures cause { IfErr result (IsWalkRefusal (F.state flash.old) (F.state flash.new)) }
     ensures safe { IfOk result (IsSafe (F.state flash.old).geometry) }
-    ensures mounted { IfTold (F.state flash.old).image (λ image. IfOk result (IsMountOf (F.state flash.old).geometry hash_bits image)) }
+    ensures mounted { IfTold (F.state flash.old).image
+        (λ image. IfOk result (IsMountOf (F.state flash.old).geometry hash_bits image)) }
 {
     let area = area_at(flash.geometry(), active.number);
     let mut builder = Builder::<B>::new(alloc, area, hash_bits);
@@ -166,9 +171,11 @@ fn mount_valid<F: Flash>(alloc: Global, flash: &mut F, hash_bits: u8) -> Result<
         (MountsBy (F.state flash.old).geometry) (kv_ended result) }
     ensures cause { IfErr result (IsRefusal (F.state flash.old) (F.state flash.new)) }
     ensures safe { IfOk result (IsSafe (F.state flash.old).geometry) }
-    ensures leaves { IfTold (F.state flash.old).image (λ image. IfTold (F.state flash.new).image (λ left.
+    ensures leaves { IfTold (F.state flash.old).image
+        (λ image. IfTold (F.state flash.new).image (λ left.
         Leaves (F.state flash.old).geometry image left result)) }
-    ensures mounted { IfTold (F.state flash.new).image (λ image. IfOk result (IsMountOf (F.state flash.old).geometry hash_bits image)) }
+    ensures mounted { IfTold (F.state flash.new).image
+        (λ image. IfOk result (IsMountOf (F.state flash.old).geometry hash_bits image)) }
 {
     let mut work = match vec![in alloc; 0u8; WORK_SIZE] {
         Ok(work) => work,
@@ -194,14 +201,17 @@ pub fn mount_parts<F: Flash>(
 ) -> Result<Parts, MountError>
     requires { hash_bits ≤ 32 }
 
-    ensures bad_geometry { (result ≡ Err MountError.BadGeometry) ↔ (IsValid (F.state flash.old).geometry → ⊥) }
+    ensures bad_geometry { (result ≡ Err MountError.BadGeometry)
+        ↔ (IsValid (F.state flash.old).geometry → ⊥) }
     ensures untouched { (IsValid (F.state flash.old).geometry → ⊥) → flash.new ≡ flash.old }
     ensures runs { RunsBy (F.state flash.old) (F.state flash.new)
         (MountsBy (F.state flash.old).geometry) (mount_ended result) }
     ensures safe { IfOk result (IsSafe (F.state flash.old).geometry) }
     // what the device holds afterwards, where it tells its image
-    ensures mounted { IfTold (F.state flash.new).image (λ image. IfOk result (IsMountOf (F.state flash.old).geometry hash_bits image)) }
-    ensures leaves { IfTold (F.state flash.old).image (λ image. IfTold (F.state flash.new).image (λ left.
+    ensures mounted { IfTold (F.state flash.new).image
+        (λ image. IfOk result (IsMountOf (F.state flash.old).geometry hash_bits image)) }
+    ensures leaves { IfTold (F.state flash.old).image
+        (λ image. IfTold (F.state flash.new).image (λ left.
         Leaves (F.state flash.old).geometry image left result)) }
 {
     if !flash.geometry().is_valid() {
