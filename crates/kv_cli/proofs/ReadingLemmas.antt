@@ -1,5 +1,5 @@
 -- What is read back of a record.
-use Rattle.std.proofs.Common.{◌≡◌, ◌≢◌, ◌⊎◌, ℕ, ◌+◌, ◌-◌, ◌<◌, ◌≤◌, List, ◌++◌, length, take, drop, min, replicate, Result, Ok, Err, IfOk, IfErr, MatchResult, ⊎_elim, refl, sym, ◌∙◌, ap, subst, arith}
+use Rattle.std.proofs.Common.{◌≡◌, ◌≢◌, ◌⊎◌, ℕ, ◌+◌, ◌-◌, ◌<◌, ◌≤◌, List, ◌++◌, length, take, drop, min, replicate, Result, Ok, Err, IfOk, IfErr, MatchResult, ⊎_elim, inl, inr, refl, sym, ◌∙◌, ap, subst, arith}
 use Rattle.std.specs.Prelude.{IsErr, IsTrue, Option, Some, None, nat_lt, true, false}
 use mathlib.Core.Bool.{false≢true}
 use Rattle.std.proofs.lemmas.Bool.{cases_lt}
@@ -14,12 +14,12 @@ use Rattle.kv_model.specs.Write.{Write}
 use Rattle.base_core.specs.declared.no_memory.NoMemory.{NoMemory}
 use Rattle.kv_model.specs.declared.call.Got.{Got}
 use Rattle.kv_model.specs.declared.error.KvError.{KvError}
-use Rattle.kv_model.specs.declared.error.KvError.TheVariants.{InvalidSize, Memory, NotFound}
+use Rattle.kv_model.specs.declared.error.KvError.TheVariants.{Corrupt, InvalidSize, Memory, NotFound, ReadFault}
 use Rattle.flash_core.proofs.GeometryLaws.{prog_positive}
 use Rattle.record_core.specs.Log.{IsRecordAt, extent}
-use Rattle.record_core.specs.Lookup.{IsReadFault}
+use Rattle.record_core.specs.Lookup.{IsReadFault, broken_answer}
 use Rattle.area_log.proofs.ReadLemmas.{value_of_record}
-use Rattle.area_log.specs.Reading.{Gives, IsWithin, ReadsValue, filled}
+use Rattle.area_log.specs.Reading.{Gives, IsNotRead, IsWithin, ReadsValue, filled, sum_of}
 use Rattle.kv_model.specs.declared.limits.TheConstants.{MAX_VALUE}
 use Rattle.kv_cli.specs.LogStore.{IfAnswered}
 use Rattle.kv_cli.specs.Reading.{IsPartOf}
@@ -89,3 +89,14 @@ answered_as (Err error) (Err none) P replies refuses memory holds = tt
 answered_as (Err error) (Ok reply) P replies refuses memory holds =
     let other : error ≢ Memory = λ same. false≢true (memory (ap (λ (e : KvError). Err e) same)) in
     subst (λ (r : Result Reply NoMemory). IfOk r P) (sym (refuses other)) (holds other)
+
+-- why a value is not given is never want of memory
+pub never_memory : (old new : FlashState) (place room offset : ℕ) (e : KvError) → IsNotRead old new place room offset e → e ≢ Memory
+never_memory old new place room offset e (inl fault) is = let same : ReadFault ≡ Memory = sym fault.is ∙ is in absurd (cc)
+never_memory old new place room offset e (inr (inl broken)) is = let same : broken_answer broken.bytes ≡ Memory = sym broken.is ∙ is in absurd (cc)
+never_memory old new place room offset e (inr (inr (inl mismatch))) is = let same : Corrupt mismatch.header.crc (sum_of mismatch.header mismatch.payload) ≡ Memory = sym mismatch.is ∙ is in absurd (cc)
+never_memory old new place room offset e (inr (inr (inr beyond))) is = let same : InvalidSize ≡ Memory = sym beyond.is ∙ is in absurd (cc)
+
+pub reads_without_memory : (old new : FlashState) (place room offset : ℕ) (buf : List ℕ) (result : Result Got KvError) → ReadsValue old new place room offset buf result → IfErr result (λ e. e ≢ Memory)
+reads_without_memory old new place room offset buf (Ok got) reads = tt
+reads_without_memory old new place room offset buf (Err e) reads = never_memory old new place room offset e reads

@@ -220,6 +220,7 @@ impl<F: Flash> LogStore<F> {
         ensures step { (constants : Constants) (masters : Masters) (records : List Write) (state : StoreState) (who : ℕ) → IsOver (F.state self.old.flash).geometry constants
             → StandsFor (F.state self.old.flash) self.old.area self.old.end self.old.table.entries masters records state
             → IfAnswered result (λ reply. HasStepped constants masters records state who (InfoOf bytes.now) reply (F.state self.new.flash) self.new.area self.new.end self.new.table.entries) }
+        ensures memory { IfErr result (λ error. error ≢ Memory) }
     {
         let Ok(key) = Key::new(bytes) else {
             return Err(KvError::InvalidKey);
@@ -266,6 +267,7 @@ impl<F: Flash> LogStore<F> {
         ensures step { (constants : Constants) (masters : Masters) (records : List Write) (state : StoreState) (who : ℕ) → IsOver (F.state self.old.flash).geometry constants
             → StandsFor (F.state self.old.flash) self.old.area self.old.end self.old.table.entries masters records state
             → IfAnswered result (λ reply. HasStepped constants masters records state who (Remove bytes.now) reply (F.state self.new.flash) self.new.area self.new.end self.new.table.entries) }
+        ensures memory { IfErr result (λ error. error ≢ Memory) }
     {
         let Ok(key) = Key::new(bytes) else {
             return Err(KvError::InvalidKey);
@@ -321,6 +323,7 @@ impl<F: Flash> LogStore<F> {
         ensures fits { OnOk result (self.old.end + record_size (F.state self.old.flash).geometry.prog (length key.now) size ≤ end_of self.old.area) }
         ensures cause { (constants : Constants) (masters : Masters) (records : List Write) (state : StoreState) → IsOver (F.state self.old.flash).geometry constants
             → StandsFor (F.state self.old.flash) self.old.area self.old.end self.old.table.entries masters records state → RoomCheck constants records state key.now size result }
+        ensures memory { IfErr result (λ error. error ≢ Memory) }
     {
         let flags = self.flags_at(place)?;
         let is_protected = flags % 2 == 1;
@@ -349,6 +352,7 @@ impl<F: Flash> LogStore<F> {
         ensures table { self.new.table ≡ self.old.table }
         ensures flags { (masters : Masters) (records : List Write) (state : StoreState) (key : List ℕ) → StandsFor (F.state self.old.flash) self.old.area self.old.end self.old.table.entries masters records state
             → IsPlaced (F.state self.old.flash) self.old.area self.old.table.entries key place → result ≡ Ok (flags_in state.primary key) }
+        ensures memory { IfErr result (λ error. error ≢ Memory) }
     {
         if !place.found {
             return Ok(0);
@@ -418,6 +422,7 @@ impl<F: Flash> LogStore<F> {
         ensures gives { (r : Write) → IsRecordAt (F.state self.old.flash).geometry.prog (image_of (F.state self.old.flash)) (entry_at self.old.table.entries at).offset r
             → MatchResult result (Gives r offset buf.new)
             (λ error. (error ≡ InvalidSize) × (length r.value < offset)) }
+        ensures memory { IfErr result (λ error. error ≢ Memory) }
     {
         let place = self.table.entry(at).1;
         self.area

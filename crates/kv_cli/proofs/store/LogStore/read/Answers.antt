@@ -1,4 +1,4 @@
-use Rattle.std.proofs.Common.{◌≡◌, ℕ, ◌+◌, ◌≤◌, sym, subst}
+use Rattle.std.proofs.Common.{◌≡◌, ℕ, ◌+◌, ◌-◌, ◌≤◌, sym, subst}
 use Rattle.area_log.specs.Reading.{HoldsRecord}
 use Rattle.flash_core.proofs.GeometryLaws.{prog_positive}
 use Rattle.kv_model.specs.Write.{Write}
@@ -7,7 +7,7 @@ use Rattle.record_core.proofs.LogLemmas.{one_record}
 use Rattle.area_log.specs.Areas.{end_of}
 use Rattle.ram_table.specs.Table.{entry_at}
 use Rattle.kv_cli.specs.Writing.{image_of}
-use Rattle.kv_cli.proofs.ReadingLemmas.{read_answer}
+use Rattle.kv_cli.proofs.ReadingLemmas.{read_answer, reads_without_memory}
 use Rattle.kv_cli.proofs.TableLemmas.{holds_at}
 use Rattle.kv_cli.proofs.store.LogStore.read.Goals as goal
 
@@ -25,3 +25,9 @@ returns-clause-gives g c r stands =
     (subst (λ (p : ℕ). IsRecordAt s.geometry.prog (image_of s) p r) (sym c.entry-place.ensures.offset) stands)
     (subst (λ (p : ℕ). p + extent s.geometry.prog r ≤ end_of self.area) (sym c.entry-place.ensures.offset) inside)
     c.read_at.ensures.answer
+
+pub returns-clause-memory : goal.returns-clause-memory
+returns-clause-memory g c =
+    let self = c.args.self.now in
+    let place = c.entry-place.result.1 in
+    reads_without_memory (g.F.Flash.state self.flash) (g.F.Flash.state c.read_at.new.flash) place (end_of self.area - place) c.args.offset c.read_at.new.buf c.read_at.result c.read_at.ensures.answer
