@@ -83,8 +83,8 @@ fn a_broken_rule_is_no_header(rt: HostRuntime) {
 fn limits_of_sizes(rt: HostRuntime) {
     // (the value's low three bytes, the flags' last byte, whether it is a header)
     for (low, middle, high, kind, want) in [
-        (0x24, 0, 1, 0, true),
-        (0x25, 0, 1, 0, false),
+        (0x38, 0, 1, 0, true),
+        (0x39, 0, 1, 0, false),
         (0, 0, 0, 0x80, true),
         (1, 0, 0, 0x80, false),
     ] {

@@ -1,5 +1,5 @@
 use Rattle.std.proofs.Common.{◌≡◌, List, ℕ, replicate, rules, subst}
-use Rattle.flash_core.specs.RecordDevice.{IsMemoryOf, memory_state}
+use Rattle.flash_core.specs.RecordDevice.{IsMemoryOf, device_state}
 use Rattle.record_core.specs.declared.writer_tests.TheConstants.{SMALL}
 use Rattle.record_core.proofs.writer_tests.erased_device.Goals as goal
 
@@ -7,4 +7,4 @@ pub returns : goal.returns
 returns c =
     let is : c.in_ok-image.image.items ≡ replicate 512 255 = search rules in
     let flash = c.in_ok-new.field-0 in
-    subst (λ (l : List ℕ). IsMemoryOf (memory_state flash.geometry flash.image.items) SMALL l) is c.in_ok-new.ensures
+    subst (λ (l : List ℕ). IsMemoryOf (device_state flash.geometry flash.image.items flash.log) SMALL l) is c.in_ok-new.ensures.device
