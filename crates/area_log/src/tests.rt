@@ -187,6 +187,17 @@ fn a_broken_header_is_told_by_its_crc_and_the_complement(rt: HostRuntime) {
     assert_eq!(rt; broken_header(&SET_HEADER), want);
 }
 
+// A device of two erased areas.
+fn erased_device(alloc: Global, prog: u32) -> Result<RecordFlash, Fail>
+    requires { IsValid (record { prog = prog; erase = 256; units_per_area = 1 }) }
+    ensures { IfOk result (λ flash.
+        IsMemoryOf (⟦<RecordFlash as Flash>⟧.state flash)
+        (record { prog = prog; erase = 256; units_per_area = 1 }) (replicate 512 255)) }
+{
+    let image = vec![in alloc; 0xff; 512]?;
+    Ok(RecordFlash::new(alloc, geometry_of(prog), image)?)
+}
+
 // What an append of key `a` at this place of an erased device answers, and the device.
 fn appended(
     rt: &impl Abort,
@@ -206,7 +217,7 @@ fn appended(
     assert!(rt; value.len() <= 100);
     let size = size_of_record(prog, 1, value.len() as u32);
     assert!(rt; size <= 256 - at);
-    let mut flash = device_of(alloc, prog, &[0xff; 512])?;
+    let mut flash = erased_device(alloc, prog)?;
     let key = Key::new(b"a")?;
     let mut work = [0; 64];
     let end = AREA.append_record(&mut flash, at, &key, value, 0, &mut work)?;
