@@ -5,7 +5,7 @@ ghost use Rattle.std.specs.FinMap.{get};
 ghost use Rattle.kv_model.specs.Checks.{Refuses, first_refusal};
 ghost use Rattle.kv_model.specs.Flags.{is_plain_flags, is_write_once};
 ghost use Rattle.kv_model.specs.Keys.{is_key};
-ghost use Rattle.kv_model.specs.Operations.{Remove, Start, Add, Finish, Abort, OpenIterator, Next};
+ghost use Rattle.kv_model.specs.Operations.{Remove, Start, Add, Abort, OpenIterator, Next};
 ghost use Rattle.kv_model.specs.PlainStep.{flags_in, no_room, plain_checks};
 ghost use Rattle.kv_model.specs.Rows.{other_set, own_set};
 ghost use Rattle.kv_model.specs.Sizes.{record_size, used};
@@ -52,8 +52,8 @@ fn is_write_once(flags: Flags) -> bool
 }
 
 impl MemoryStore {
-    /// Whether no set is active.
-    pub fn check_free(&self, who: u8) -> Result<(), KvError>
+    // Whether no set is active.
+    pub(crate) fn check_free(&self, who: u8) -> Result<(), KvError>
         ensures refusal { first_refusal (own_set (state_in self.now) who
             ∷ other_set (state_in self.now) who ∷ []) ≡ refusal_of result }
         ensures free { IfOk result (λ done. self.now.held ≡ None) }
@@ -121,8 +121,8 @@ impl MemoryStore {
         Ok(())
     }
 
-    /// The item that a read of these bytes finds.
-    pub fn check_read(&self, bytes: &[u8]) -> Result<&Item, KvError>
+    // The item that a read of these bytes finds.
+    pub(crate) fn check_read(&self, bytes: &[u8]) -> Result<&Item, KvError>
         ensures refusal { first_refusal (Refuses (not (is_key bytes.now)) InvalidKey
             ∷ Refuses (is_none (get self.now.entries.map bytes.now)) NotFound ∷ [])
             ≡ refusal_of result }
@@ -136,8 +136,8 @@ impl MemoryStore {
         }
     }
 
-    /// The key of these bytes, which may be removed.
-    pub fn check_remove(&self, who: u8, bytes: &[u8]) -> Result<Key, KvError>
+    // The key of these bytes, which may be removed.
+    pub(crate) fn check_remove(&self, who: u8, bytes: &[u8]) -> Result<Key, KvError>
         ensures refusal { first_refusal (plain_checks (constants_in self.now)
             (state_in self.now) who (Remove bytes.now)) ≡ refusal_of result }
         ensures key { IfOk result (λ key. key ≡ bytes.now) }
@@ -149,8 +149,8 @@ impl MemoryStore {
         Ok(key)
     }
 
-    /// The key of these bytes, which may be set to a value of so many bytes.
-    pub fn check_set(
+    // The key of these bytes, which may be set to a value of so many bytes.
+    pub(crate) fn check_set(
         &self,
         who: u8,
         bytes: &[u8],
@@ -172,8 +172,8 @@ impl MemoryStore {
         Ok(key)
     }
 
-    /// The caller's set.
-    pub fn check_owner(&self, who: u8) -> Result<&HeldSet, KvError>
+    // The caller's set.
+    pub(crate) fn check_owner(&self, who: u8) -> Result<&HeldSet, KvError>
         ensures refusal { first_refusal (plain_checks (constants_in self.now)
             (state_in self.now) who Abort) ≡ refusal_of result }
         ensures held { IfOk result (λ held. self.now.held ≡ Some held.now) }
@@ -189,8 +189,8 @@ impl MemoryStore {
         }
     }
 
-    /// Whether the caller's set takes these bytes.
-    pub fn check_add(&self, who: u8, value: &[u8]) -> Result<(), KvError>
+    // Whether the caller's set takes these bytes.
+    pub(crate) fn check_add(&self, who: u8, value: &[u8]) -> Result<(), KvError>
         ensures refusal { first_refusal (plain_checks (constants_in self.now)
             (state_in self.now) who (Add value.now)) ≡ refusal_of result }
         ensures fits { IfOk result (λ done. ForSome self.now.held (λ held.
@@ -203,8 +203,8 @@ impl MemoryStore {
         Ok(())
     }
 
-    /// Whether the caller may open an iterator of this number.
-    pub fn check_open(&self, who: u8, n: u8, prefix: &[u8]) -> Result<(), KvError>
+    // Whether the caller may open an iterator of this number.
+    pub(crate) fn check_open(&self, who: u8, n: u8, prefix: &[u8]) -> Result<(), KvError>
         ensures { first_refusal (plain_checks (constants_in self.now)
             (state_in self.now) who (OpenIterator n prefix.now)) ≡ refusal_of result }
     {
@@ -217,8 +217,8 @@ impl MemoryStore {
         Ok(())
     }
 
-    /// The caller's iterator of this number.
-    pub fn check_next(&self, who: u8, n: u8) -> Result<&Cursor, KvError>
+    // The caller's iterator of this number.
+    pub(crate) fn check_next(&self, who: u8, n: u8) -> Result<&Cursor, KvError>
         ensures refusal { first_refusal (plain_checks (constants_in self.now)
             (state_in self.now) who (Next n)) ≡ refusal_of result }
         ensures cursor { IfOk result (λ cursor.

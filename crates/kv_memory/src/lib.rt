@@ -25,4 +25,6 @@ pub use silent::SilentStore;
 pub use walk::{bytes_used, hash_of, is_below, least_of, record_bytes};
 
 #[cfg(test)]
+mod store_tests;
+#[cfg(test)]
 mod tests;

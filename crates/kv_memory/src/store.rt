@@ -1,12 +1,10 @@
 // The plain store in memory as a store.
-ghost use Rattle.std.specs.Prelude.{◌≡◌, ◌≤◌, ◌<◌, ◌^◌, ◌∷◌, [], IfOk, IfErr, length, take, drop, nat_lt};
-ghost use Rattle.std.specs.Option.{ForSome, option_map};
+ghost use Rattle.std.specs.Prelude.{◌≡◌, ◌≤◌, ◌<◌, ◌^◌, ◌∷◌, [], IfOk, length, take, drop, nat_lt};
+ghost use Rattle.std.specs.Option.{option_map};
 ghost use Rattle.kv_model.specs.Checks.{Refuses, first_refusal};
-ghost use Rattle.kv_model.specs.Given.{AreZerosFrom, read_end, done_or};
-ghost use Rattle.kv_model.specs.Kv.{Answers, answered};
-ghost use Rattle.kv_model.specs.Operations.{Finish};
+ghost use Rattle.kv_model.specs.Given.{AreZerosFrom, read_end};
 ghost use Rattle.kv_model.specs.PlainStep.{plain_rules};
-ghost use Rattle.kv_model.specs.declared.error.KvError.TheVariants.{InvalidSize, Memory};
+ghost use Rattle.kv_model.specs.declared.error.KvError.TheVariants.{InvalidSize};
 ghost use Rattle.kv_model.proofs.RulesLemmas.{plain_are_rules};
 ghost use Rattle.kv_memory.specs.HeldSets.{set_of};
 ghost use Rattle.kv_memory.specs.Memory.{constants_in, known_of};
