@@ -1,16 +1,17 @@
 -- The entries of a store in memory as a finite map.
-use Rattle.std.proofs.Common.{◌≡◌, ℕ, List, [], set, get_or, Some, None, Result, Ok, Err, Ordering, refl, sym, ◌∙◌, ap, subst}
+use Rattle.std.proofs.Common.{◌≡◌, ℕ, List, [], ◌∷◌, map, set, get_or, Some, None, Result, Ok, Err, Ordering, refl, sym, ◌∙◌, ap, subst}
 use Rattle.std.specs.Ordering.{nat_cmp}
 use Rattle.std.specs.Cmp.Lexicographic.{slice_cmp, nat_list_cmp_total}
 use Rattle.std.specs.List.{insert, remove}
 use Rattle.std.specs.FinMap as finite
-use Rattle.std.specs.FinMap.{empty, get}
+use Rattle.std.specs.FinMap.{empty, entries, get, keys}
 use Rattle.kv_model.specs.FlaggedMap.{Stored}
+use Rattle.kv_model.specs.Sizes.{used, used_by}
 use Rattle.kv_model.proofs.MapLemmas.{entries-empty}
 use Rattle.kv_model.proofs.NextKeyLemmas.{bytes_same}
 use Rattle.kv_memory.specs.declared.entries.Item.{Item}
 use Rattle.kv_memory.specs.Places.{place_of}
-use Rattle.kv_memory.specs.EntryOf.{key_of, stored_of, map_of, Rise}
+use Rattle.kv_memory.specs.EntryOf.{key_of, pair_of, stored_of, map_of, Rise}
 use Rattle.kv_memory.proofs.SortedLemmas as sorted
 
 abbrev R : List ℕ → List ℕ → Ordering
@@ -68,6 +69,21 @@ removed key items at rise is =
 pub not_there : (key : List ℕ) (items : List Item) (at : ℕ) → Rise items → place key items ≡ Err at → map_of items ≡ finite.remove (map_of items) key
 not_there key items at rise is =
     finite.same_map nat_list_cmp_total bytes_same _ _ (λ q. sorted.lost R nat_list_cmp_total bytes_same key_of stored_of (map_of items) key q (got_absent key items at rise is))
+
+-- ---- walks
+
+pub listed : (items : List Item) → Rise items → entries (map_of items) ≡ map pair_of items
+listed items rise = sorted.entries_of R nat_list_cmp_total bytes_same key_of stored_of items rise
+
+pub used_listed : (prog : ℕ) (items : List Item) → Rise items → used_by prog (map pair_of items) ≡ used prog (map_of items)
+used_listed prog items rise = ap (used_by prog) (sym (listed items rise))
+
+first_of : (items : List Item) → map (λ (e : List ℕ × Stored). e.0) (map pair_of items) ≡ map key_of items
+first_of [] = refl
+first_of (item ∷ items) = ap (λ (ks : List (List ℕ)). item.key ∷ ks) (first_of items)
+
+pub keys_listed : (items : List Item) → Rise items → keys (map_of items) ≡ map key_of items
+keys_listed items rise = ap (map (λ (e : List ℕ × Stored). e.0)) (listed items rise) ∙ first_of items
 
 pub no_items : (items : List Item) → items ≡ [] → map_of items ≡ empty
 no_items items none = (sorted.same_map_of R nat_list_cmp_total bytes_same key_of stored_of items empty (ap (λ (l : List Item). sorted.pairs R nat_list_cmp_total bytes_same key_of stored_of l) none ∙ sym (entries-empty R Stored))).0

@@ -8,6 +8,7 @@ use Rattle.std.proofs.lemmas.List.{length-map}
 use Rattle.kv_model.specs.StoreState.{Position, iterator_cmp}
 use Rattle.kv_model.proofs.MapLemmas.{entries-empty, iterator_total}
 use Rattle.kv_memory.specs.declared.iterators.Slot.{Slot}
+use Rattle.kv_memory.specs.Cursors.{behind}
 use Rattle.kv_memory.specs.Places.{place_of}
 use Rattle.kv_memory.specs.SlotOf.{name_of, standing, slot_pair, map_of, Rise}
 use Rattle.kv_memory.proofs.SortedLemmas as sorted
@@ -52,11 +53,21 @@ no_slots slots none =
 
 -- ---- changes
 
+abbrev given : Slot → List ℕ → Slot
+given slot key = record { who = slot.who; n = slot.n; cursor = record { prefix = slot.cursor.prefix; last = Some key } }
+
 pub replaced : (slots : List Slot) (at : ℕ) (slot : Slot) → Rise slots → place (name_of slot) slots ≡ Ok at
     → (map_of (set slots at slot) ≡ finite.insert (map_of slots) (name_of slot) (standing slot)) × Rise (set slots at slot)
 replaced slots at slot rise is =
     sorted.put_in iterator_cmp iterator_total names_same name_of standing (name_of slot) slots (set slots at slot) (standing slot) rise
     ((found_at (name_of slot) slots at rise is).replaces slot refl)
+
+-- an iterator that gave a key
+pub moved : (name : ℕ × ℕ) (slots : List Slot) (at : ℕ) (slot : Slot) (key : List ℕ) → Rise slots → place name slots ≡ Ok at → slot ≡ get_or slots at slot
+    → (map_of (set slots at (given slot key)) ≡ finite.insert (map_of slots) name (behind (standing slot) key)) × Rise (set slots at (given slot key))
+moved name slots at slot key rise is read =
+    sorted.put_in iterator_cmp iterator_total names_same name_of standing name slots (set slots at (given slot key)) (standing (given slot key)) rise
+    ((found_at name slots at rise is).replaces (given slot key) (ap name_of read ∙ (found_at name slots at rise is).has_key slot))
 
 pub inserted : (slots : List Slot) (at : ℕ) (slot : Slot) → Rise slots → place (name_of slot) slots ≡ Err at
     → (map_of (insert slots at slot) ≡ finite.insert (map_of slots) (name_of slot) (standing slot)) × Rise (insert slots at slot)

@@ -2,8 +2,11 @@ pub mod Cursors
 pub mod EntriesState
 pub mod EntryOf
 pub mod Going
+pub mod HeldSets
 pub mod IteratorCode
+pub mod Memory
 pub mod Pairs
 pub mod Places
 pub mod Silent
 pub mod SlotOf
+pub mod Telling

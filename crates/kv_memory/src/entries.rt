@@ -1,13 +1,18 @@
 // The entries of a store in memory: keys with their flags and values, in the order of the keys'
 // bytes.
-ghost use Rattle.std.specs.Prelude.{◌≡◌, ◌≤◌, ◌<◌, ◌+◌, MatchOption, None, Some, OnOk, length, vec_capacity};
+ghost use Rattle.std.specs.Prelude.{◌≡◌, ◌≤◌, ◌<◌, ◌+◌, ◌^◌, MatchOption, None, Some, OnOk, length, vec_capacity};
+ghost use Rattle.std.specs.Option.{option_copied};
 ghost use Rattle.std.specs.List as list;
 ghost use Rattle.std.specs.Ordering.{nat_cmp};
 ghost use Rattle.std.specs.Cmp.Lexicographic.{slice_cmp};
 ghost use Rattle.std.specs.FinMap.{empty, get, insert, remove};
+ghost use Rattle.kv_model.specs.NextKey.{next_key};
+ghost use Rattle.kv_model.specs.Sizes.{used};
+ghost use Rattle.kv_memory.specs.Cursors.{position_of};
 ghost use Rattle.kv_memory.specs.Places.{place_of};
 ghost use Rattle.kv_memory.specs.EntryOf.{key_of, stored_of};
 
+use crate::{Cursor, bytes_used, least_of};
 use kv_model::{Bytes, Flags, Key, NoMemory};
 use std::alloc::Global;
 use std::cmp::Ordering;
@@ -99,6 +104,25 @@ impl Entries {
             Ok(at) => Some(&self.items[at]),
             Err(_) => None,
         }
+    }
+
+    /// What the records of the keys take, in bytes.
+    pub fn used(&self, prog: u32) -> u32
+        requires positive { 0 < prog }
+        requires unit { prog ≤ 4096 }
+        requires fits { used prog self.now.map < 2 ^ 31 }
+        ensures { result ≡ used prog self.now.map }
+    {
+        bytes_used(prog, &self.items)
+    }
+
+    /// The next key that an iterator gives.
+    pub fn next_key(&self, hash_bits: u8, cursor: &Cursor) -> Option<&Key>
+        requires { hash_bits ≤ 32 }
+        ensures { option_copied result
+            ≡ next_key hash_bits self.now.map (position_of cursor.now) }
+    {
+        least_of(hash_bits, cursor, &self.items)
     }
 
     /// Gives a key new flags and a new value, also one that it lacks. It takes no memory.

@@ -1,10 +1,11 @@
 // The iterators of a store in memory, by their owners and numbers.
 ghost use Rattle.std.specs.Prelude.{◌≡◌, ◌≤◌, ◌<◌, MatchOption, None, Some, OnOk, OnErr, length, vec_capacity};
 ghost use Rattle.std.specs.List as list;
+ghost use Rattle.std.specs.Option.{option_map_or};
 ghost use Rattle.std.specs.FinMap.{empty, get, insert, len, remove};
 ghost use Rattle.kv_model.specs.StoreState.{iterator_cmp};
 ghost use Rattle.kv_memory.specs.Places.{place_of};
-ghost use Rattle.kv_memory.specs.Cursors.{position_of};
+ghost use Rattle.kv_memory.specs.Cursors.{behind, position_of};
 ghost use Rattle.kv_memory.specs.SlotOf.{Rise, map_of, name_of, standing};
 
 use crate::Cursor;
@@ -121,6 +122,20 @@ impl Iterators {
         self.slots.reserve(1)?;
         put(&mut self.slots, Slot { who, n, cursor });
         Ok(())
+    }
+
+    /// Notes the key that an iterator gave, where it is there. It takes no memory.
+    pub fn advance(&mut self, who: u8, n: u8, key: Key)
+        ensures { self.new ≡ option_map_or (λ position. insert self.old (who, n)
+            (behind position key)) (get self.old (who, n)) self.old }
+    {
+        match place_in(&self.slots, who, n) {
+            Ok(at) => {
+                let slot = &mut self.slots[at];
+                slot.cursor.last = Some(key);
+            }
+            Err(_) => {}
+        }
     }
 
     /// Closes an iterator, where it is there.

@@ -1,0 +1,10 @@
+use Rattle.std.proofs.Common.{length, ap, arith}
+use Rattle.kv_memory.specs.EntryOf.{stored_of}
+use Rattle.kv_memory.proofs.MemoryLemmas.{value_within}
+use Rattle.kv_memory.proofs.store.MemoryStoreKv.info.Goals as goal
+
+pub overflow_cast-result : goal.overflow_cast-result
+overflow_cast-result c =
+    let store = c.args.self.now in
+    let short = value_within store.prog store.entries.map c.args.key.now (stored_of c.in_ok-item.item.now) (omega (arith, store.positive)) c.in_ok-item.ensures.item in
+    omega (arith, short, store.fits, store.small, ap length c.as_slice.ensures)
