@@ -1,0 +1,4 @@
+pub mod HealLemmas
+pub mod RulesLemmas
+pub mod SetLemmas
+pub mod ViewLemmas
