@@ -1,4 +1,6 @@
+pub mod CutLemmas
 pub mod HealLemmas
 pub mod RulesLemmas
+pub mod SealLemmas
 pub mod SetLemmas
 pub mod ViewLemmas

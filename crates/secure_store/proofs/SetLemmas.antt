@@ -25,7 +25,7 @@ use Rattle.secure_record.specs.Unseal.{unseal}
 use Rattle.secure_store.specs.declared.limits.TheConstants.{MAX_SECURE_VALUE}
 use Rattle.secure_store.specs.Sealing.{is_numbered, secure_of}
 use Rattle.secure_store.specs.SecureStep.{finished, finished_record, is_protected, is_spent, needed, needed_beside, secure_checks, secure_effect, secure_rules, secure_step, set_record, unmirrors}
-use Rattle.secure_store.specs.Limits.{IsSecure, secure_starts}
+use Rattle.secure_store.specs.Limits.{secure_starts}
 use Rattle.secure_store.specs.Laws.{ShowsSet}
 use Rattle.secure_store.proofs.ViewLemmas.{others_stay, stored_held}
 
@@ -84,7 +84,7 @@ module _ (constants : Constants) (state : StoreState) (who : ℕ) where
 
 -- ---- the prior and the vector
 
-sixteen : (stored : Stored) (b : Bool) → (length stored.bytes == 16) ≡ b → HasPrior Second (if b then Some stored.bytes else None)
+pub sixteen : (stored : Stored) (b : Bool) → (length stored.bytes == 16) ≡ b → HasPrior Second (if b then Some stored.bytes else None)
 sixteen stored true is = (refl, eqb-true (length stored.bytes) 16 is)
 sixteen stored false is = tt
 
@@ -92,7 +92,7 @@ tag_prior : (found : Option Stored) → HasPrior Second (tag_in found)
 tag_prior None = tt
 tag_prior (Some stored) = sixteen stored (length stored.bytes == 16) refl
 
-some_prior : (mirrored : Bool) (found : Option Stored) → HasPrior Second (if mirrored then tag_in found else None)
+pub some_prior : (mirrored : Bool) (found : Option Stored) → HasPrior Second (if mirrored then tag_in found else None)
 some_prior true found = tag_prior found
 some_prior false found = tt
 
@@ -102,7 +102,7 @@ small_vector false n small = omega arith
 
 -- ---- the state after them
 
-module _ (opens : SealsOpen) (constants : Constants) (state : StoreState) (secure : IsSecure state) where
+module _ (opens : SealsOpen) (constants : Constants) (state : StoreState) (small : state.next_vector < 2 ^ 64) where
   abbrev root : List ℕ
   root = (secure_of constants).root
 
@@ -111,7 +111,7 @@ module _ (opens : SealsOpen) (constants : Constants) (state : StoreState) (secur
       ≡ Some (record { flags = flags; vector = sealed_vector flags (if is_numbered flags then state.next_vector else 0); value = value })
   set_opens key value flags may =
       opens root key flags (if is_numbered flags then state.next_vector else 0) (prior_in state.rollback flags key) value may.secure
-      (small_vector (is_numbered flags) state.next_vector secure.next_vector) (some_prior (is_mirrored flags) (get state.rollback key)) may.most
+      (small_vector (is_numbered flags) state.next_vector small) (some_prior (is_mirrored flags) (get state.rollback key)) may.most
 
   set_granted : (who : ℕ) (key value : List ℕ) (flags : ℕ) → first_refusal (secure_checks constants state who (Set key value flags)) ≡ None
       → ShowsSet constants state (secure_effect constants state who (Set key value flags)).state key flags value
@@ -140,46 +140,46 @@ module _ (opens : SealsOpen) (constants : Constants) (state : StoreState) (secur
 
   -- ---- the finish of a set
 
-  pub finish_opens : (set : OpenSet) → IsSet secure_starts state.rollback state.next_vector set
+  pub finish_opens : (n : ℕ) (set : OpenSet) → IsSet secure_starts state.rollback n set
       → unseal root set.key (finished_record constants state set)
       ≡ Some (record { flags = set.flags; vector = sealed_vector set.flags (if is_numbered set.flags then state.next_vector - 1 else 0); value = set.bytes })
-  finish_opens set valid =
-      let small : state.next_vector - 1 < 2 ^ 64 = omega (arith, secure.next_vector) in
+  finish_opens n set valid =
+      let less : state.next_vector - 1 < 2 ^ 64 = omega (arith, small) in
       let most : length set.bytes ≤ 65536 = omega (arith, valid.fed, valid.began.1) in
       opens root set.key set.flags (if is_numbered set.flags then state.next_vector - 1 else 0) set.prior set.bytes valid.began.0
-      (small_vector (is_numbered set.flags) (state.next_vector - 1) small)
+      (small_vector (is_numbered set.flags) (state.next_vector - 1) less)
       (subst (HasPrior Second) (sym valid.prior) (some_prior (is_mirrored set.flags) (get state.rollback set.key))) most
 
   abbrev ended : Maps → StoreState
   ended maps = record state { primary = maps.primary; rollback = maps.rollback; open_set = None }
 
-  finish_shown : (set : OpenSet) (is_remove : Bool) → set.is_remove ≡ is_remove → is_remove ≡ false
-      → MatchBool is_remove (set.prior ≡ None) (IsSet secure_starts state.rollback state.next_vector set)
+  finish_shown : (n : ℕ) (set : OpenSet) (is_remove : Bool) → set.is_remove ≡ is_remove → is_remove ≡ false
+      → MatchBool is_remove (set.prior ≡ None) (IsSet secure_starts state.rollback n set)
       → ShowsSet constants state (ended (finished constants state set)) set.key set.flags set.bytes
-  finish_shown set true is ends valid = absurd (true≢false ends)
-  finish_shown set false is ends valid =
+  finish_shown n set true is ends valid = absurd (true≢false ends)
+  finish_shown n set false is ends valid =
       let bytes : List ℕ = finished_record constants state set in
       subst (λ (b : Bool). ShowsSet constants state (ended (finished constants state (record set { is_remove = b }))) set.key set.flags set.bytes) (sym is)
       (record {
-        held = stored_held root (maps_of state) set.key bytes _ (finish_opens set valid) valid.not_mirrored;
+        held = stored_held root (maps_of state) set.key bytes _ (finish_opens n set valid) valid.not_mirrored;
         others = λ other differs. others_stay root (maps_of state) set.key other set.flags bytes differs;
       })
 
-  finish_granted : (set : OpenSet) (found : Option OpenSet) → found ≡ Some set → set.is_remove ≡ false → IfSome found (IsActive secure_starts state.rollback state.next_vector)
+  finish_granted : (n : ℕ) (set : OpenSet) (found : Option OpenSet) → found ≡ Some set → set.is_remove ≡ false → IfSome found (IsActive secure_starts state.rollback n)
       → ShowsSet constants state (option_map_or (λ (s : OpenSet). ended (finished constants state s)) found state) set.key set.flags set.bytes
-  finish_granted set None is ends valid = absurd (cc is)
-  finish_granted set (Some s) is ends valid =
+  finish_granted n set None is ends valid = absurd (cc is)
+  finish_granted n set (Some s) is ends valid =
       let same : s ≡ set = cc is in
       subst (λ (x : OpenSet). ShowsSet constants state (ended (finished constants state s)) x.key x.flags x.bytes) same
-      (finish_shown s s.is_remove refl (ap (λ (x : OpenSet). x.is_remove) same ∙ ends) valid)
+      (finish_shown n s s.is_remove refl (ap (λ (x : OpenSet). x.is_remove) same ∙ ends) valid)
 
-  finish_done : (who : ℕ) (set : OpenSet) (stopped : Bool) (found : Option KvError) → state.open_set ≡ Some set → set.is_remove ≡ false
+  finish_done : (n who : ℕ) (set : OpenSet) (stopped : Bool) (found : Option KvError) → IfSome state.open_set (IsActive secure_starts state.rollback n) → state.open_set ≡ Some set → set.is_remove ≡ false
       → (if stopped then refuses state error.Stopped else refused_or (secure_rules constants) state who Finish found).reply ≡ Done
       → ShowsSet constants state (if stopped then refuses state error.Stopped else refused_or (secure_rules constants) state who Finish found).state set.key set.flags set.bytes
-  finish_done who set true found is ends done = absurd (refused_is_not_done error.Stopped done)
-  finish_done who set false None is ends done = finish_granted set state.open_set is ends secure.open_set
-  finish_done who set false (Some e) is ends done = absurd (refused_is_not_done e done)
+  finish_done n who set true found active is ends done = absurd (refused_is_not_done error.Stopped done)
+  finish_done n who set false None active is ends done = finish_granted n set state.open_set is ends active
+  finish_done n who set false (Some e) active is ends done = absurd (refused_is_not_done e done)
 
-  pub finish_shows : (who : ℕ) (set : OpenSet) → state.open_set ≡ Some set → set.is_remove ≡ false → (secure_step constants state who Finish).reply ≡ Done
+  pub finish_shows : (n who : ℕ) (set : OpenSet) → IfSome state.open_set (IsActive secure_starts state.rollback n) → state.open_set ≡ Some set → set.is_remove ≡ false → (secure_step constants state who Finish).reply ≡ Done
       → ShowsSet constants state (secure_step constants state who Finish).state set.key set.flags set.bytes
-  finish_shows who set is ends done = finish_done who set (is_some state.doubt) (first_refusal (secure_checks constants state who Finish)) is ends done
+  finish_shows n who set active is ends done = finish_done n who set (is_some state.doubt) (first_refusal (secure_checks constants state who Finish)) active is ends done

@@ -58,7 +58,7 @@ opened_held root key bytes o kept tag opens belongs =
     ap (view_unsealed bytes tag) opens
     ∙ held_by (is_mirrored o.flags) (holds_tag bytes tag) (is_some tag) (Held o.flags o.value) belongs.mirrored (λ plain. ap is_some (belongs.plain plain))
 
-own_tag : (flags : ℕ) (bytes : List ℕ) → holds_tag bytes (Some (tag_entry flags bytes)) ≡ true
+pub own_tag : (flags : ℕ) (bytes : List ℕ) → holds_tag bytes (Some (tag_entry flags bytes)) ≡ true
 own_tag flags bytes = (bytes_eq-Decides (tag_of bytes) (tag_of bytes)).1 refl
 
 -- what the rollback map has once the record is stored

@@ -1,11 +1,18 @@
 -- What the laws of a secure store say.
-use Rattle.std.specs.Prelude.{◌≡◌, ◌≢◌, ◌⊎◌, ℕ, List, Option, Some, None}
+use Rattle.std.specs.Prelude.{◌≡◌, ◌≢◌, ◌⊎◌, ℕ, ◌<◌, ◌≤◌, ◌^◌, IsTrue, List, length, Option, Some, None, Contains}
 use Rattle.kv_model.specs.Constants.{Constants, Secure}
 use Rattle.kv_model.specs.FlaggedMap.{Stored}
-use Rattle.kv_model.specs.StoreState.{Maps, StoreState}
-use Rattle.secure_store.specs.View.{Held}
-use Rattle.secure_store.specs.SecureStep.{view}
-use Rattle.secure_store.specs.Heal.{IsHealed}
+use Rattle.kv_model.specs.Flags.{is_secure_flags}
+use Rattle.kv_model.specs.Operations.{Operation}
+use Rattle.kv_model.specs.Rules.{cuts}
+use Rattle.kv_model.specs.StoreState.{Maps, StoreState, maps_of}
+use Rattle.secure_record.specs.declared.metadata.Revision.TheVariants.{Second}
+use Rattle.secure_record.specs.Metadata.{HasPrior}
+use Rattle.secure_store.specs.declared.limits.TheConstants.{MAX_SECURE_VALUE}
+use Rattle.secure_store.specs.Sealing.{secure_of}
+use Rattle.secure_store.specs.View.{View, Held, view_of}
+use Rattle.secure_store.specs.SecureStep.{secure_rules, view}
+use Rattle.secure_store.specs.Heal.{heal, IsHealed}
 
 -- a set that is done: the key has the flags and the value that were set, and every other key has the view that it had
 pub record ShowsSet (constants : Constants) (old new : StoreState) (key : List ℕ) (flags : ℕ) (value : List ℕ) : Type 0 where
@@ -17,3 +24,20 @@ abbrev pub HealsKey : Secure → Maps → List ℕ → Option Stored → Option 
 HealsKey secure maps key None new = new ≡ None
 HealsKey secure maps key (Some old) None = ⊥
 HealsKey secure maps key (Some old) (Some new) = (new ≡ old) ⊎ IsHealed secure maps key old new
+
+-- what a secure store seals
+pub record MaySeal (flags iv : ℕ) (prior : Option (List ℕ)) (value : List ℕ) : Type 0 where
+  pub secure : IsTrue (is_secure_flags flags)
+  pub number : iv < 2 ^ 64
+  pub replaced : HasPrior Second prior
+  pub most : length value ≤ MAX_SECURE_VALUE
+
+-- the view of a key once these maps are mounted
+abbrev pub mounted_view : Constants → Maps → List ℕ → View
+mounted_view constants maps key = view_of (secure_of constants).root (heal (secure_of constants) maps) key
+
+-- A cut in a call that sets a key: of whatever the cut leaves, the mount shows the view of the key that a mount would
+-- have shown before the call, or the value that the call sets.
+abbrev pub ShowsOldOrSet : Constants → StoreState → ℕ → Operation → List ℕ → View → Type 0
+ShowsOldOrSet constants state who operation key set = (maps : Maps) → Contains (cuts (secure_rules constants) state who operation) maps
+    → (mounted_view constants maps key ≡ mounted_view constants (maps_of state) key) ⊎ (mounted_view constants maps key ≡ set)

@@ -1,7 +1,8 @@
 //! What the rules of a secure store mean.
-ghost use Rattle.std.specs.Prelude.{◌≡◌, ℕ, false, List, Some};
+ghost use Rattle.std.specs.Prelude.{◌≡◌, ◌+◌, ℕ, false, List, length, Option, Some};
 ghost use Rattle.std.specs.FinMap.{get};
 ghost use Rattle.kv_model.specs.Constants.{Constants, Secure};
+ghost use Rattle.kv_model.specs.declared.limits.TheConstants.{MAX_VALUE};
 ghost use Rattle.kv_model.specs.declared.call.Reply.TheVariants.{Done};
 ghost use Rattle.kv_model.specs.FlaggedMap.{Stored};
 ghost use Rattle.kv_model.specs.Iterations.{SharesIterators};
@@ -9,9 +10,13 @@ ghost use Rattle.kv_model.specs.Operations.{Set, Finish};
 ghost use Rattle.kv_model.specs.Rules.{AreRules};
 ghost use Rattle.kv_model.specs.Sizes.{used};
 ghost use Rattle.kv_model.specs.StoreState.{Maps, OpenSet, StoreState};
+ghost use Rattle.secure_record.specs.Sealed.{seal, sealed_vector, stored, tag};
+ghost use Rattle.secure_store.specs.declared.limits.TheConstants.{MAX_SECURE_VALUE, SEAL_SIZE};
 ghost use Rattle.secure_store.specs.Heal.{heal, IsHealed};
-ghost use Rattle.secure_store.specs.Laws.{HealsKey, ShowsSet};
+ghost use Rattle.secure_store.specs.Laws.{HealsKey, MaySeal, ShowsOldOrSet, ShowsSet};
+ghost use Rattle.secure_store.specs.Sealing.{tag_of};
 ghost use Rattle.secure_store.specs.Limits.{IsSecure};
+ghost use Rattle.secure_store.specs.View.{Held};
 ghost use Rattle.secure_store.specs.SecureStep.{secure_rules, secure_step};
 
 /// The rules of a secure store are rules of a store: what a call does is no refusal, a get, a part
@@ -21,6 +26,21 @@ pub fn secure_rules_are_rules()
     ensures iterators { (constants : Constants)
         → SharesIterators constants.hash_bits (secure_rules constants) }
 {}
+
+/// A sealed value takes a fixed size more than the value, its tag is the CMAC of its record, and the
+/// largest one is as long as a value of the store below may be.
+pub fn sealed_values_have_their_size()
+    ensures size { (root key : List ℕ) (flags iv : ℕ) (prior : Option (List ℕ)) (value : List ℕ)
+        → MaySeal flags iv prior value
+        → length (seal root key flags iv prior value) ≡ length value + SEAL_SIZE }
+    ensures tag { (root key : List ℕ) (flags iv : ℕ) (prior : Option (List ℕ)) (value : List ℕ)
+        → tag_of (seal root key flags iv prior value)
+        ≡ tag root key flags (sealed_vector flags iv) prior
+        (stored root key flags (sealed_vector flags iv) value) }
+    ensures largest { MAX_SECURE_VALUE + SEAL_SIZE ≡ MAX_VALUE }
+{
+    secure_record::laws::sealed_records_have_their_form();
+}
 
 /// Healing leaves the primary map. It puts the tag of a key's record in the place of the tag that
 /// this record replaces, wherever that stands and may be replaced, and leaves all else. So the
@@ -54,4 +74,17 @@ pub fn a_set_is_shown()
         set.key set.flags set.bytes }
 {
     secure_record::laws::sealed_records_are_opened();
+}
+
+/// After a power cut or a failed write in a set of a key for which the rollback store has a tag,
+/// whatever of it stands, a mount shows of the key what it would have shown before, or what was
+/// set.
+pub fn a_cut_set_is_whole_or_absent()
+    ensures { (constants : Constants) (state : StoreState) (who : ℕ) (key value : List ℕ)
+        (flags : ℕ) (tag : Stored) → IsSecure state
+        → get state.rollback key ≡ Some tag → length tag.bytes ≡ 16
+        → ShowsOldOrSet constants state who (Set key value flags) key (Held flags value) }
+{
+    secure_record::laws::sealed_records_are_opened();
+    secure_record::laws::sealed_records_have_their_form();
 }
