@@ -110,7 +110,7 @@ second_false : (a b : Bool) → a || b ≡ false → b ≡ false
 second_false true b h = absurd (true≢false h)
 second_false false b h = h
 
-small_before : (next : ℕ) (doubt : Option Doubt) → next < 2 ^ 64
+pub small_before : (next : ℕ) (doubt : Option Doubt) → next < 2 ^ 64
     → option_map_or (λ (d : Doubt). number_given_back (takes_number d.operation) next) doubt next < 2 ^ 64
 small_before next None small = small
 small_before next (Some d) small = given_back (takes_number d.operation)

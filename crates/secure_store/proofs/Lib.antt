@@ -1,5 +1,6 @@
 pub mod CutLemmas
 pub mod HealLemmas
+pub mod LimitLemmas
 pub mod RulesLemmas
 pub mod SealLemmas
 pub mod SetLemmas

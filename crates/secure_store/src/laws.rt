@@ -1,15 +1,17 @@
 //! What the rules of a secure store mean.
-ghost use Rattle.std.specs.Prelude.{◌≡◌, ◌+◌, ℕ, false, List, length, Option, Some};
-ghost use Rattle.std.specs.FinMap.{get};
+ghost use Rattle.std.specs.Prelude.{◌≡◌, ◌<◌, ◌^◌, ◌+◌, ℕ, false, List, length, Option, Some};
+ghost use Rattle.std.specs.FinMap.{empty, get};
 ghost use Rattle.kv_model.specs.Constants.{Constants, Secure};
 ghost use Rattle.kv_model.specs.declared.limits.TheConstants.{MAX_VALUE};
 ghost use Rattle.kv_model.specs.declared.call.Reply.TheVariants.{Done};
+ghost use Rattle.kv_model.specs.declared.call.Entry.{Entry};
+ghost use Rattle.kv_model.specs.History.{Follows};
 ghost use Rattle.kv_model.specs.FlaggedMap.{Stored};
 ghost use Rattle.kv_model.specs.Iterations.{SharesIterators};
-ghost use Rattle.kv_model.specs.Operations.{Set, Finish};
+ghost use Rattle.kv_model.specs.Operations.{Operation, Set, Finish};
 ghost use Rattle.kv_model.specs.Rules.{AreRules};
 ghost use Rattle.kv_model.specs.Sizes.{used};
-ghost use Rattle.kv_model.specs.StoreState.{Maps, OpenSet, StoreState};
+ghost use Rattle.kv_model.specs.StoreState.{Maps, OpenSet, StoreState, fresh_state};
 ghost use Rattle.secure_record.specs.Sealed.{seal, sealed_vector, stored, tag};
 ghost use Rattle.secure_store.specs.declared.limits.TheConstants.{MAX_SECURE_VALUE, SEAL_SIZE};
 ghost use Rattle.secure_store.specs.Heal.{heal, IsHealed};
@@ -86,5 +88,17 @@ pub fn a_cut_set_is_whole_or_absent()
         → ShowsOldOrSet constants state who (Set key value flags) key (Held flags value) }
 {
     secure_record::laws::sealed_records_are_opened();
+    secure_record::laws::sealed_records_have_their_form();
+}
+
+/// A secure store begins within the limits of a state, and every call, fault and mount keeps them.
+pub fn limits_are_kept()
+    ensures fresh { (next_vector : ℕ) → next_vector < 2 ^ 64
+        → IsSecure (fresh_state empty empty next_vector) }
+    ensures step { (constants : Constants) (state : StoreState) (who : ℕ) (operation : Operation)
+        → IsSecure state → IsSecure (secure_step constants state who operation).state }
+    ensures history { (constants : Constants) (old new : StoreState) (entry : Entry)
+        → IsSecure old → Follows (secure_rules constants) old entry new → IsSecure new }
+{
     secure_record::laws::sealed_records_have_their_form();
 }
