@@ -115,7 +115,7 @@ no_less : (takes : Bool) (n : ℕ) → n ≤ number_taken takes n
 no_less true n = omega arith
 no_less false n = omega arith
 
-none_active : (P : OpenSet → Type 0) (found : Option OpenSet) → is_some found ≡ false → IfSome found P
+pub none_active : (P : OpenSet → Type 0) (found : Option OpenSet) → is_some found ≡ false → IfSome found P
 none_active P None none = tt
 none_active P (Some set) none = absurd (true≢false none)
 
@@ -137,6 +137,29 @@ one_less : (there : Bool) (n : ℕ) → n ≤ MAX_ITERATORS → cond there (n - 
 one_less true n few = omega (arith, few)
 one_less false n few = few
 
+-- ---- what is sealed
+
+module _ (constants : Constants) (state : StoreState) (small : state.next_vector < 2 ^ 64) where
+  pub set_seals : (key value : List ℕ) (flags : ℕ) → MaySet constants state key (length value) flags
+      → MaySeal flags (if is_numbered flags then state.next_vector else 0) (prior_in state.rollback flags key) value
+  set_seals key value flags may = record {
+    secure = may.secure;
+    number = small_vector (is_numbered flags) state.next_vector small;
+    replaced = some_prior (is_mirrored flags) (map.get state.rollback key);
+    most = may.most;
+  }
+
+  pub finish_seals : (n : ℕ) (set : OpenSet) → IsSet secure_starts state.rollback n set
+      → MaySeal set.flags (if is_numbered set.flags then state.next_vector - 1 else 0) set.prior set.bytes
+  finish_seals n set valid =
+      let less : state.next_vector - 1 < 2 ^ 64 = omega (arith, small) in
+      record {
+        secure = valid.began.0;
+        number = small_vector (is_numbered set.flags) (state.next_vector - 1) less;
+        replaced = subst (HasPrior Second) (sym valid.prior) (some_prior (is_mirrored set.flags) (map.get state.rollback set.key));
+        most = omega (arith, valid.fed, valid.began.1);
+      }
+
 -- ---- the maps after a step
 
 module _ (form : HaveForm) (constants : Constants) (state : StoreState) (who : ℕ) (small : state.next_vector < 2 ^ 64) (old : ShortMaps (maps_of state)) where
@@ -145,26 +168,15 @@ module _ (form : HaveForm) (constants : Constants) (state : StoreState) (who : �
 
   set_short : (key value : List ℕ) (flags : ℕ) → MaySet constants state key (length value) flags → ShortMaps (with_record (maps_of state) key flags (set_record constants state key value flags))
   set_short key value flags may =
-      let seals : MaySeal flags (if is_numbered flags then state.next_vector else 0) (prior_in state.rollback flags key) value =
-      record { secure = may.secure; number = small_vector (is_numbered flags) state.next_vector small; replaced = some_prior (is_mirrored flags) (map.get state.rollback key); most = may.most } in
-      let size = length-seal form root key flags (if is_numbered flags then state.next_vector else 0) (prior_in state.rollback flags key) value seals in
+      let size = length-seal form root key flags (if is_numbered flags then state.next_vector else 0) (prior_in state.rollback flags key) value (set_seals constants state small key value flags may) in
       short_record (maps_of state) key flags (set_record constants state key value flags) old (omega (arith, size, may.most))
 
   finish_short : (n : ℕ) (set : OpenSet) (is_remove : Bool) → MatchBool is_remove (set.prior ≡ None) (IsSet secure_starts state.rollback n set)
       → ShortMaps (if is_remove then without_key (maps_of state) set.key else with_record (maps_of state) set.key set.flags (finished_record constants state set))
   finish_short n set true valid = short_without (maps_of state) set.key old
   finish_short n set false valid =
-      let most : length set.bytes ≤ MAX_SECURE_VALUE = omega (arith, valid.fed, valid.began.1) in
-      let less : state.next_vector - 1 < 2 ^ 64 = omega (arith, small) in
-      let seals : MaySeal set.flags (if is_numbered set.flags then state.next_vector - 1 else 0) set.prior set.bytes =
-      record {
-        secure = valid.began.0;
-        number = small_vector (is_numbered set.flags) (state.next_vector - 1) less;
-        replaced = subst (HasPrior Second) (sym valid.prior) (some_prior (is_mirrored set.flags) (map.get state.rollback set.key));
-        most = most;
-      } in
-      let size = length-seal form root set.key set.flags (if is_numbered set.flags then state.next_vector - 1 else 0) set.prior set.bytes seals in
-      short_record (maps_of state) set.key set.flags (finished_record constants state set) old (omega (arith, size, most))
+      let size = length-seal form root set.key set.flags (if is_numbered set.flags then state.next_vector - 1 else 0) set.prior set.bytes (finish_seals constants state small n set valid) in
+      short_record (maps_of state) set.key set.flags (finished_record constants state set) old (omega (arith, size, valid.fed, valid.began.1))
 
   finished_short : (n : ℕ) (found : Option OpenSet) → IfSome found (IsActive secure_starts state.rollback n)
       → ShortMaps (maps_of (option_map_or (λ (s : OpenSet). record state { primary = (finished constants state s).primary; rollback = (finished constants state s).rollback; open_set = None }) found state))
@@ -307,13 +319,13 @@ module _ (constants : Constants) (state : StoreState) (who : ℕ) (old : IsSecur
   moved n None is = rest
   moved n (Some key) is = placed n _ (no_more (has n) (map.len state.iterators) is old.iterators)
 
-  none_open : (key : List ℕ) → first_refusal (secure_checks constants state who (Remove key)) ≡ None → is_some state.open_set ≡ false
+  pub none_open : (key : List ℕ) → first_refusal (secure_checks constants state who (Remove key)) ≡ None → is_some state.open_set ≡ false
   none_open key none =
       let named = unrefused (not (is_key key)) error.InvalidKey _ none in
       let not_own = unrefused (owns_set state who) error.SetOpen _ named.1 in
       (unrefused (is_some state.open_set) (error.Busy (set_owner state who)) _ not_own.1).0
 
-  none_at_reset : first_refusal (secure_checks constants state who Reset) ≡ None → is_some state.open_set ≡ false
+  pub none_at_reset : first_refusal (secure_checks constants state who Reset) ≡ None → is_some state.open_set ≡ false
   none_at_reset none = (unrefused (is_some state.open_set) (error.Busy (set_owner state who)) _ (unrefused (owns_set state who) error.SetOpen _ none).1).0
 
   granted : (operation : Operation) → first_refusal (secure_checks constants state who operation) ≡ None → KeepsRest (secure_effect constants state who operation).state

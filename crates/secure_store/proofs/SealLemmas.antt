@@ -25,7 +25,7 @@ small_or_zero false n small = small
 
 module _ (form : HaveForm) (root key : List ℕ) (flags iv : ℕ) (prior : Option (List ℕ)) (value : List ℕ) where
   pub is_metadata : MaySeal flags iv prior value → IsMetadata (sealed_metadata (length value) flags iv prior)
-  is_metadata may = record { size = may.most; flags = may.secure; vector = small_or_zero (flags == 0) iv may.number; prior = may.replaced }
+  is_metadata may = record { size = omega (arith, may.most); flags = may.secure; vector = small_or_zero (flags == 0) iv may.number; prior = may.replaced }
 
   pub length-seal : MaySeal flags iv prior value → length (seal root key flags iv prior value) ≡ length value + SEAL_SIZE
   length-seal may =

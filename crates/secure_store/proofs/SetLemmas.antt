@@ -111,7 +111,7 @@ module _ (opens : SealsOpen) (constants : Constants) (state : StoreState) (small
       ≡ Some (record { flags = flags; vector = sealed_vector flags (if is_numbered flags then state.next_vector else 0); value = value })
   set_opens key value flags may =
       opens root key flags (if is_numbered flags then state.next_vector else 0) (prior_in state.rollback flags key) value may.secure
-      (small_vector (is_numbered flags) state.next_vector small) (some_prior (is_mirrored flags) (get state.rollback key)) may.most
+      (small_vector (is_numbered flags) state.next_vector small) (some_prior (is_mirrored flags) (get state.rollback key)) (omega (arith, may.most))
 
   set_granted : (who : ℕ) (key value : List ℕ) (flags : ℕ) → first_refusal (secure_checks constants state who (Set key value flags)) ≡ None
       → ShowsSet constants state (secure_effect constants state who (Set key value flags)).state key flags value

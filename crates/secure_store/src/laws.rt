@@ -17,7 +17,7 @@ ghost use Rattle.secure_store.specs.declared.limits.TheConstants.{MAX_SECURE_VAL
 ghost use Rattle.secure_store.specs.Heal.{heal, IsHealed};
 ghost use Rattle.secure_store.specs.Laws.{HealsKey, MaySeal, ShowsOldOrSet, ShowsSet};
 ghost use Rattle.secure_store.specs.Sealing.{tag_of};
-ghost use Rattle.secure_store.specs.Limits.{IsSecure};
+ghost use Rattle.secure_store.specs.Limits.{HasRooms, IsSecure};
 ghost use Rattle.secure_store.specs.View.{Held};
 ghost use Rattle.secure_store.specs.SecureStep.{secure_rules, secure_step};
 
@@ -99,6 +99,21 @@ pub fn limits_are_kept()
         → IsSecure state → IsSecure (secure_step constants state who operation).state }
     ensures history { (constants : Constants) (old new : StoreState) (entry : Entry)
         → IsSecure old → Follows (secure_rules constants) old entry new → IsSecure new }
+{
+    secure_record::laws::sealed_records_have_their_form();
+}
+
+/// What a secure store holds in its two stores fits in their rooms, and what the set that is active
+/// will store with it, from empty stores on and through every call, fault and mount.
+pub fn rooms_are_kept()
+    ensures fresh { (constants : Constants) (next_vector : ℕ)
+        → HasRooms constants (fresh_state empty empty next_vector) }
+    ensures step { (constants : Constants) (state : StoreState) (who : ℕ) (operation : Operation)
+        → IsSecure state → HasRooms constants state
+        → HasRooms constants (secure_step constants state who operation).state }
+    ensures history { (constants : Constants) (old new : StoreState) (entry : Entry)
+        → IsSecure old → HasRooms constants old → Follows (secure_rules constants) old entry new
+        → HasRooms constants new }
 {
     secure_record::laws::sealed_records_have_their_form();
 }
