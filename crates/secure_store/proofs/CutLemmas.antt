@@ -96,17 +96,17 @@ module _ (constants : Constants) (maps : Maps) (key bytes value : List ℕ) (fla
 
 -- ---- what the start of a set found
 
-mirrors : (mirrored : Bool) (found : Option Stored) (tag : Stored) → (mirrored ≡ false → found ≡ None) → found ≡ Some tag → mirrored ≡ true
+pub mirrors : (mirrored : Bool) (found : Option Stored) (tag : Stored) → (mirrored ≡ false → found ≡ None) → found ≡ Some tag → mirrored ≡ true
 mirrors true found tag lacks stands = refl
 mirrors false found tag lacks stands = absurd (cc (lacks refl, stands))
 
-prior_is : (mirrored : Bool) (found : Option Stored) (tag : Stored) → mirrored ≡ true → found ≡ Some tag → length tag.bytes ≡ 16
+pub prior_is : (mirrored : Bool) (found : Option Stored) (tag : Stored) → mirrored ≡ true → found ≡ Some tag → length tag.bytes ≡ 16
     → (if mirrored then tag_in found else None) ≡ Some tag.bytes
 prior_is mirrored stored tag is stands long =
     ap₂ (λ (b : Bool) (o : Option Stored). if b then tag_in o else None) is stands
     ∙ ap (λ (b : Bool). if b then Some tag.bytes else None) (eq-eqb (length tag.bytes) 16 long)
 
-second_false : (a b : Bool) → a || b ≡ false → b ≡ false
+pub second_false : (a b : Bool) → a || b ≡ false → b ≡ false
 second_false true b h = absurd (true≢false h)
 second_false false b h = h
 

@@ -1,4 +1,5 @@
 pub mod CutLemmas
+pub mod FinishLemmas
 pub mod HealLemmas
 pub mod LimitLemmas
 pub mod RoomLemmas

@@ -10,7 +10,7 @@ use Rattle.secure_record.specs.declared.metadata.Revision.TheVariants.{Second}
 use Rattle.secure_record.specs.Metadata.{HasPrior}
 use Rattle.secure_store.specs.declared.limits.TheConstants.{MAX_SECURE_VALUE}
 use Rattle.secure_store.specs.Sealing.{secure_of}
-use Rattle.secure_store.specs.View.{View, Held, view_of}
+use Rattle.secure_store.specs.View.{View, Held, RollbackFailed, view_of}
 use Rattle.secure_store.specs.SecureStep.{secure_rules, view}
 use Rattle.secure_store.specs.Heal.{heal, IsHealed}
 
@@ -41,3 +41,9 @@ mounted_view constants maps key = view_of (secure_of constants).root (heal (secu
 abbrev pub ShowsOldOrSet : Constants → StoreState → ℕ → Operation → List ℕ → View → Type 0
 ShowsOldOrSet constants state who operation key set = (maps : Maps) → Contains (cuts (secure_rules constants) state who operation) maps
     → (mounted_view constants maps key ≡ mounted_view constants (maps_of state) key) ⊎ (mounted_view constants maps key ≡ set)
+
+-- the same, where a mount may find that the stores don't belong together
+abbrev pub ShowsOldSetOrFailed : Constants → StoreState → ℕ → Operation → List ℕ → View → Type 0
+ShowsOldSetOrFailed constants state who operation key set = (maps : Maps) → Contains (cuts (secure_rules constants) state who operation) maps
+    → (mounted_view constants maps key ≡ mounted_view constants (maps_of state) key)
+    ⊎ ((mounted_view constants maps key ≡ set) ⊎ (mounted_view constants maps key ≡ RollbackFailed))

@@ -15,7 +15,7 @@ ghost use Rattle.kv_model.specs.StoreState.{Maps, OpenSet, StoreState, fresh_sta
 ghost use Rattle.secure_record.specs.Sealed.{seal, sealed_vector, stored, tag};
 ghost use Rattle.secure_store.specs.declared.limits.TheConstants.{MAX_SECURE_VALUE, SEAL_SIZE};
 ghost use Rattle.secure_store.specs.Heal.{heal, IsHealed};
-ghost use Rattle.secure_store.specs.Laws.{HealsKey, MaySeal, ShowsOldOrSet, ShowsSet};
+ghost use Rattle.secure_store.specs.Laws.{HealsKey, MaySeal, ShowsOldOrSet, ShowsOldSetOrFailed, ShowsSet};
 ghost use Rattle.secure_store.specs.Sealing.{tag_of};
 ghost use Rattle.secure_store.specs.Limits.{HasRooms, IsSecure};
 ghost use Rattle.secure_store.specs.View.{Held};
@@ -78,14 +78,23 @@ pub fn a_set_is_shown()
     secure_record::laws::sealed_records_are_opened();
 }
 
-/// After a power cut or a failed write in a set of a key for which the rollback store has a tag,
-/// whatever of it stands, a mount shows of the key what it would have shown before, or what was
-/// set.
+/// After a power cut or a failed write in a set of a key for which the rollback store has a tag, or
+/// in the finish of such a set, whatever of it stands, a mount shows of the key what it would have
+/// shown before, or what was set. For any other set it may show that the stores don't belong
+/// together; no third value is ever shown.
 pub fn a_cut_set_is_whole_or_absent()
-    ensures { (constants : Constants) (state : StoreState) (who : ℕ) (key value : List ℕ)
+    ensures set { (constants : Constants) (state : StoreState) (who : ℕ) (key value : List ℕ)
         (flags : ℕ) (tag : Stored) → IsSecure state
         → get state.rollback key ≡ Some tag → length tag.bytes ≡ 16
         → ShowsOldOrSet constants state who (Set key value flags) key (Held flags value) }
+    ensures finish { (constants : Constants) (state : StoreState) (who : ℕ) (set : OpenSet)
+        (tag : Stored) → IsSecure state → HasRooms constants state
+        → state.open_set ≡ Some set → set.is_remove ≡ false
+        → get state.rollback set.key ≡ Some tag → length tag.bytes ≡ 16
+        → ShowsOldOrSet constants state who Finish set.key (Held set.flags set.bytes) }
+    ensures any { (constants : Constants) (state : StoreState) (who : ℕ) (key value : List ℕ)
+        (flags : ℕ) → IsSecure state
+        → ShowsOldSetOrFailed constants state who (Set key value flags) key (Held flags value) }
 {
     secure_record::laws::sealed_records_are_opened();
     secure_record::laws::sealed_records_have_their_form();
