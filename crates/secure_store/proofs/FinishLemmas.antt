@@ -2,7 +2,7 @@
 use Rattle.std.proofs.Common.{◌≡◌, ◌⊎◌, inl, inr, ℕ, ◌-◌, ◌<◌, ◌^◌, Bool, true, false, List, length, Option, Some, None, IfSome, MatchBool, refl, sym, ◌∙◌, ap, subst, true≢false}
 use Rattle.std.specs.Prelude.{if◌then◌else◌, is_some}
 use Rattle.std.specs.Option.{option_map_or}
-use Rattle.std.specs.FinMap.{get, insert}
+use Rattle.std.specs.FinMap.{get}
 use Rattle.kv_model.specs.declared.error.KvError.{KvError}
 use Rattle.kv_model.specs.declared.error.KvError.TheVariants as error
 use Rattle.kv_model.specs.Checks.{first_refusal}
@@ -10,24 +10,23 @@ use Rattle.kv_model.specs.Constants.{Constants}
 use Rattle.kv_model.specs.FlaggedMap.{Stored}
 use Rattle.kv_model.specs.Flags.{is_mirrored, is_write_once}
 use Rattle.kv_model.specs.Limits.{IsActive, IsSet}
-use Rattle.kv_model.specs.Operations.{Set, Finish}
+use Rattle.kv_model.specs.Operations.{Finish}
 use Rattle.kv_model.specs.Rules.{after_refusal, before_doubt, refused_or}
 use Rattle.kv_model.specs.StoreState.{Maps, StoreState, OpenSet, maps_of}
 use Rattle.kv_model.proofs.LimitLemmas.{one_of_three}
 use Rattle.secure_record.specs.declared.metadata.Metadata.{Metadata}
 use Rattle.secure_record.specs.Sealed.{sealed_metadata, sealed_vector}
 use Rattle.secure_record.specs.Unseal.{Opened, unseal}
-use Rattle.secure_store.specs.Sealing.{is_numbered, record_entry, secure_of, with_record, without_key}
+use Rattle.secure_store.specs.Sealing.{is_numbered, secure_of, with_record, without_key}
 use Rattle.secure_store.specs.View.{View, Held, RollbackFailed, holds_tag, view_by, view_unsealed}
 use Rattle.secure_store.specs.Heal.{heal}
-use Rattle.secure_store.specs.SecureStep.{finished, finished_record, secure_checks, secure_rules, set_record}
+use Rattle.secure_store.specs.SecureStep.{finished, finished_record, secure_checks, secure_rules}
 use Rattle.secure_store.specs.Limits.{ForActive, IsReserved, secure_starts}
-use Rattle.secure_store.specs.Laws.{ShowsOldOrSet, ShowsOldSetOrFailed, mounted_view}
+use Rattle.secure_store.specs.Laws.{ShowsOldOrSet, mounted_view}
 use Rattle.secure_store.proofs.CutLemmas.{IsSealed, half, half_shown, whole_shown, mirrors, prior_is, second_false, small_before}
 use Rattle.secure_store.proofs.LimitLemmas.{finish_seals}
 use Rattle.secure_store.proofs.SealLemmas.{HaveForm, metadata_in_seal}
-use Rattle.secure_store.proofs.SetLemmas.{SealsOpen, finish_opens, may_set, set_opens}
-use Rattle.secure_store.proofs.ViewLemmas.{get_same}
+use Rattle.secure_store.proofs.SetLemmas.{SealsOpen, finish_opens}
 
 -- ---- the finish of a set
 
@@ -124,7 +123,7 @@ held_or_failed false holds true v = inr refl
 held_or_failed false holds false v = inl refl
 
 -- maps whose primary map has the record of a value show that value, or that the stores don't belong together
-record_shown : (constants : Constants) (maps : Maps) (key bytes : List ℕ) (kept : ℕ) (o : Opened) → get maps.primary key ≡ Some (record { flags = kept; bytes = bytes })
+pub record_shown : (constants : Constants) (maps : Maps) (key bytes : List ℕ) (kept : ℕ) (o : Opened) → get maps.primary key ≡ Some (record { flags = kept; bytes = bytes })
     → unseal (secure_of constants).root key bytes ≡ Some o
     → (mounted_view constants maps key ≡ Held o.flags o.value) ⊎ (mounted_view constants maps key ≡ RollbackFailed)
 record_shown constants maps key bytes kept o found opened =
@@ -132,27 +131,3 @@ record_shown constants maps key bytes kept o found opened =
     let is = ap (λ (s : Option Stored). view_by (secure_of constants).root key s tag) found ∙ ap (view_unsealed bytes tag) opened in
     subst (λ (v : View). (v ≡ Held o.flags o.value) ⊎ (v ≡ RollbackFailed)) (sym is)
     (held_or_failed (is_mirrored o.flags) (holds_tag bytes tag) (is_some tag) (Held o.flags o.value))
-
-module _ (opens : SealsOpen) (constants : Constants) (state : StoreState) (small : state.next_vector < 2 ^ 64) (who : ℕ) (key value : List ℕ) (flags : ℕ) where
-  abbrev begun : StoreState
-  begun = before_doubt (secure_rules constants) state
-
-  abbrev Reads : Maps → Type 0
-  Reads maps = (mounted_view constants maps key ≡ mounted_view constants (maps_of state) key)
-      ⊎ ((mounted_view constants maps key ≡ Held flags value) ⊎ (mounted_view constants maps key ≡ RollbackFailed))
-
-  left : (found : Option KvError) → first_refusal (secure_checks constants begun who (Set key value flags)) ≡ found → (rollback : _)
-      → (rollback ≡ begun.rollback) ⊎ (rollback ≡ (refused_or (secure_rules constants) begun who (Set key value flags) found).state.rollback)
-      → Reads (record { primary = (refused_or (secure_rules constants) begun who (Set key value flags) found).state.primary; rollback = rollback })
-  left None none rollback is =
-      let opened = set_opens opens constants begun (small_before state.next_vector state.doubt small) key value flags (may_set constants begun who key (length value) flags none) in
-      inr (record_shown constants (record { primary = insert begun.primary key (record_entry flags (set_record constants begun key value flags)); rollback = rollback }) key
-      (set_record constants begun key value flags) _ _ (get_same begun.primary key (record_entry flags (set_record constants begun key value flags))) opened)
-  left (Some e) refused rollback (inl is) = inl (ap (λ (r : _). mounted_view constants (record { primary = state.primary; rollback = r }) key) is)
-  left (Some e) refused rollback (inr is) = inl (ap (λ (r : _). mounted_view constants (record { primary = state.primary; rollback = r }) key) is)
-
-  pub any_cut_set : ShowsOldSetOrFailed constants state who (Set key value flags) key (Held flags value)
-  any_cut_set maps cut =
-      let found : Option KvError = first_refusal (secure_checks constants begun who (Set key value flags)) in
-      one_of_three Reads _ _ _ maps (inl refl) (left found refl begun.rollback (inl refl))
-      (left found refl (refused_or (secure_rules constants) begun who (Set key value flags) found).state.rollback (inr refl)) cut.0 cut.1 cut.2

@@ -1,3 +1,4 @@
+pub mod AnyCutLemmas
 pub mod CutLemmas
 pub mod FinishLemmas
 pub mod HealLemmas

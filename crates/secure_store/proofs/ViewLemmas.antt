@@ -3,7 +3,7 @@ use Rattle.std.proofs.Common.{◌≡◌, ◌≢◌, ℕ, Bool, true, false, cond
 use Rattle.std.specs.Prelude.{if◌then◌else◌, is_some}
 use Rattle.std.specs.Ordering.{eq_by_cmp}
 use Rattle.std.specs.Cmp.Lexicographic.{slice_cmp, nat_list_cmp_total}
-use Rattle.std.specs.FinMap.{get, insert, get-insert}
+use Rattle.std.specs.FinMap.{get, insert, remove, get-insert, get-remove}
 use Rattle.std.proofs.lemmas.Cmp.{tied_itself}
 use Rattle.std.proofs.lemmas.Slice.Eq.{bytes_eq-Decides}
 use Rattle.kv_model.specs.FlaggedMap.{FlaggedMap, Stored}
@@ -37,6 +37,16 @@ pub get_other : (m : FlaggedMap) (key other : List ℕ) (value : Stored) → oth
 get_other m key other value differs =
     get-insert nat_list_cmp_total m key value other
     ∙ ap (λ (b : Bool). cond b (Some value) (get m other)) (apart other key _ differs refl)
+
+pub get_gone : (m : FlaggedMap) (key : List ℕ) → get (remove m key) key ≡ None
+get_gone m key =
+    get-remove nat_list_cmp_total m key key
+    ∙ ap (λ (r : Ordering). cond (is_eq r) None (get m key)) (tied_itself nat_list_cmp_total key)
+
+pub get_kept : (m : FlaggedMap) (key other : List ℕ) → other ≢ key → get (remove m key) other ≡ get m other
+get_kept m key other differs =
+    get-remove nat_list_cmp_total m key other
+    ∙ ap (λ (b : Bool). cond b None (get m other)) (apart other key _ differs refl)
 
 -- ---- the key whose record was stored
 
@@ -96,3 +106,8 @@ pub others_stay : (root : List ℕ) (maps : Maps) (key other : List ℕ) (flags 
     → view_of root (with_record maps key flags bytes) other ≡ view_of root maps other
 others_stay root maps key other flags bytes differs =
     ap₂ (view_by root other) (get_other maps.primary key other (record_entry flags bytes) differs) (other_tag maps key other bytes flags (is_mirrored flags) differs)
+
+pub others_stay_half : (root : List ℕ) (maps : Maps) (key other : List ℕ) (flags : ℕ) (bytes : List ℕ) → other ≢ key
+    → view_of root (record { primary = insert maps.primary key (record_entry flags bytes); rollback = maps.rollback }) other ≡ view_of root maps other
+others_stay_half root maps key other flags bytes differs =
+    ap (λ (s : Option Stored). view_by root other s (get maps.rollback other)) (get_other maps.primary key other (record_entry flags bytes) differs)

@@ -1,5 +1,5 @@
 //! What the rules of a secure store mean.
-ghost use Rattle.std.specs.Prelude.{◌≡◌, ◌<◌, ◌^◌, ◌+◌, ℕ, false, List, length, Option, Some};
+ghost use Rattle.std.specs.Prelude.{◌≡◌, ◌<◌, ◌^◌, ◌+◌, ℕ, true, false, List, length, Option, Some};
 ghost use Rattle.std.specs.FinMap.{empty, get};
 ghost use Rattle.kv_model.specs.Constants.{Constants, Secure};
 ghost use Rattle.kv_model.specs.declared.limits.TheConstants.{MAX_VALUE};
@@ -8,7 +8,7 @@ ghost use Rattle.kv_model.specs.declared.call.Entry.{Entry};
 ghost use Rattle.kv_model.specs.History.{Follows};
 ghost use Rattle.kv_model.specs.FlaggedMap.{Stored};
 ghost use Rattle.kv_model.specs.Iterations.{SharesIterators};
-ghost use Rattle.kv_model.specs.Operations.{Operation, Set, Finish};
+ghost use Rattle.kv_model.specs.Operations.{Operation, Set, Finish, Remove, Reset};
 ghost use Rattle.kv_model.specs.Rules.{AreRules};
 ghost use Rattle.kv_model.specs.Sizes.{used};
 ghost use Rattle.kv_model.specs.StoreState.{Maps, OpenSet, StoreState, fresh_state};
@@ -18,7 +18,7 @@ ghost use Rattle.secure_store.specs.Heal.{heal, IsHealed};
 ghost use Rattle.secure_store.specs.Laws.{HealsKey, MaySeal, ShowsOldOrSet, ShowsOldSetOrFailed, ShowsSet};
 ghost use Rattle.secure_store.specs.Sealing.{tag_of};
 ghost use Rattle.secure_store.specs.Limits.{HasRooms, IsSecure};
-ghost use Rattle.secure_store.specs.View.{Held};
+ghost use Rattle.secure_store.specs.View.{Absent, Held};
 ghost use Rattle.secure_store.specs.SecureStep.{secure_rules, secure_step};
 
 /// The rules of a secure store are rules of a store: what a call does is no refusal, a get, a part
@@ -80,8 +80,7 @@ pub fn a_set_is_shown()
 
 /// After a power cut or a failed write in a set of a key for which the rollback store has a tag, or
 /// in the finish of such a set, whatever of it stands, a mount shows of the key what it would have
-/// shown before, or what was set. For any other set it may show that the stores don't belong
-/// together; no third value is ever shown.
+/// shown before, or what was set.
 pub fn a_cut_set_is_whole_or_absent()
     ensures set { (constants : Constants) (state : StoreState) (who : ℕ) (key value : List ℕ)
         (flags : ℕ) (tag : Stored) → IsSecure state
@@ -92,12 +91,30 @@ pub fn a_cut_set_is_whole_or_absent()
         → state.open_set ≡ Some set → set.is_remove ≡ false
         → get state.rollback set.key ≡ Some tag → length tag.bytes ≡ 16
         → ShowsOldOrSet constants state who Finish set.key (Held set.flags set.bytes) }
-    ensures any { (constants : Constants) (state : StoreState) (who : ℕ) (key value : List ℕ)
-        (flags : ℕ) → IsSecure state
-        → ShowsOldSetOrFailed constants state who (Set key value flags) key (Held flags value) }
 {
     secure_record::laws::sealed_records_are_opened();
     secure_record::laws::sealed_records_have_their_form();
+}
+
+/// After a power cut or a failed write in any set, remove or reset, or in a finish, a mount shows of
+/// the key what it would have shown before, or what the call makes of it, or that the two stores
+/// don't belong together. It never shows a third value.
+pub fn a_cut_shows_no_other_value()
+    ensures set { (constants : Constants) (state : StoreState) (who : ℕ) (key value : List ℕ)
+        (flags : ℕ) → IsSecure state
+        → ShowsOldSetOrFailed constants state who (Set key value flags) key (Held flags value) }
+    ensures finish { (constants : Constants) (state : StoreState) (who : ℕ) (set : OpenSet)
+        → IsSecure state → state.open_set ≡ Some set → set.is_remove ≡ false
+        → ShowsOldSetOrFailed constants state who Finish set.key (Held set.flags set.bytes) }
+    ensures remove { (constants : Constants) (state : StoreState) (who : ℕ) (key : List ℕ)
+        → ShowsOldSetOrFailed constants state who (Remove key) key Absent }
+    ensures finish_remove { (constants : Constants) (state : StoreState) (who : ℕ) (set : OpenSet)
+        → state.open_set ≡ Some set → set.is_remove ≡ true
+        → ShowsOldSetOrFailed constants state who Finish set.key Absent }
+    ensures reset { (constants : Constants) (state : StoreState) (who : ℕ) (key : List ℕ)
+        → ShowsOldSetOrFailed constants state who Reset key Absent }
+{
+    secure_record::laws::sealed_records_are_opened();
 }
 
 /// A secure store begins within the limits of a state, and every call, fault and mount keeps them.

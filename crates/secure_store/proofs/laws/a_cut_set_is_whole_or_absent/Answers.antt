@@ -1,6 +1,6 @@
 use Rattle.secure_store.proofs.SealLemmas.{HaveForm}
 use Rattle.secure_store.proofs.CutLemmas.{cut_shows}
-use Rattle.secure_store.proofs.FinishLemmas.{any_cut_set, cut_finish_shows}
+use Rattle.secure_store.proofs.FinishLemmas.{cut_finish_shows}
 use Rattle.secure_store.proofs.laws.a_cut_set_is_whole_or_absent.Goals as goal
 
 pub returns-clause-set : goal.returns-clause-set
@@ -14,7 +14,3 @@ returns-clause-finish c constants state who set tag secure rooms is ends stands 
     let f = c.sealed_records_have_their_form.ensures in
     let form : HaveForm = record { size = f.size; tag = f.tag; metadata = f.metadata } in
     cut_finish_shows c.sealed_records_are_opened.ensures.second form constants state secure.next_vector state.next_vector who tag long set is ends secure.open_set rooms.reserved stands
-
-pub returns-clause-any : goal.returns-clause-any
-returns-clause-any c constants state who key value flags secure =
-    any_cut_set c.sealed_records_are_opened.ensures.second constants state secure.next_vector who key value flags
