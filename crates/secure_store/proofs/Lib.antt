@@ -3,6 +3,7 @@ pub mod CutLemmas
 pub mod FinishLemmas
 pub mod HealLemmas
 pub mod LimitLemmas
+pub mod OtherKeyLemmas
 pub mod RoomLemmas
 pub mod RulesLemmas
 pub mod SealLemmas

@@ -97,7 +97,7 @@ stored_held root maps key bytes o opens lacks =
 
 -- ---- the other keys
 
-other_tag : (maps : Maps) (key other bytes : List ℕ) (flags : ℕ) (mirrored : Bool) → other ≢ key
+pub other_tag : (maps : Maps) (key other bytes : List ℕ) (flags : ℕ) (mirrored : Bool) → other ≢ key
     → get (if mirrored then insert maps.rollback key (tag_entry flags bytes) else maps.rollback) other ≡ get maps.rollback other
 other_tag maps key other bytes flags true differs = get_other maps.rollback key other (tag_entry flags bytes) differs
 other_tag maps key other bytes flags false differs = refl
@@ -106,8 +106,3 @@ pub others_stay : (root : List ℕ) (maps : Maps) (key other : List ℕ) (flags 
     → view_of root (with_record maps key flags bytes) other ≡ view_of root maps other
 others_stay root maps key other flags bytes differs =
     ap₂ (view_by root other) (get_other maps.primary key other (record_entry flags bytes) differs) (other_tag maps key other bytes flags (is_mirrored flags) differs)
-
-pub others_stay_half : (root : List ℕ) (maps : Maps) (key other : List ℕ) (flags : ℕ) (bytes : List ℕ) → other ≢ key
-    → view_of root (record { primary = insert maps.primary key (record_entry flags bytes); rollback = maps.rollback }) other ≡ view_of root maps other
-others_stay_half root maps key other flags bytes differs =
-    ap (λ (s : Option Stored). view_by root other s (get maps.rollback other)) (get_other maps.primary key other (record_entry flags bytes) differs)

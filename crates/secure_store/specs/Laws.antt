@@ -1,5 +1,6 @@
 -- What the laws of a secure store say.
 use Rattle.std.specs.Prelude.{◌≡◌, ◌≢◌, ◌⊎◌, ℕ, ◌<◌, ◌≤◌, ◌^◌, IsTrue, List, length, Option, Some, None, Contains}
+use Rattle.std.specs.FinMap.{get}
 use Rattle.kv_model.specs.Constants.{Constants, Secure}
 use Rattle.kv_model.specs.FlaggedMap.{Stored}
 use Rattle.kv_model.specs.Flags.{is_secure_flags}
@@ -47,3 +48,12 @@ abbrev pub ShowsOldSetOrFailed : Constants → StoreState → ℕ → Operation 
 ShowsOldSetOrFailed constants state who operation key set = (maps : Maps) → Contains (cuts (secure_rules constants) state who operation) maps
     → (mounted_view constants maps key ≡ mounted_view constants (maps_of state) key)
     ⊎ ((mounted_view constants maps key ≡ set) ⊎ (mounted_view constants maps key ≡ RollbackFailed))
+
+-- both stores hold of a key what they held
+abbrev pub LeavesKey : Maps → Maps → List ℕ → Type 0
+LeavesKey old new key = (get new.primary key ≡ get old.primary key) × (get new.rollback key ≡ get old.rollback key)
+
+-- whatever a cut leaves, before a mount heals it, the stores hold of every other key what they held
+abbrev pub LeavesOthers : Constants → StoreState → ℕ → Operation → List ℕ → Type 0
+LeavesOthers constants state who operation key = (maps : Maps) → Contains (cuts (secure_rules constants) state who operation) maps
+    → (other : List ℕ) → other ≢ key → LeavesKey (maps_of state) maps other
