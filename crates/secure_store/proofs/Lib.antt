@@ -4,6 +4,7 @@ pub mod FinishLemmas
 pub mod HealLemmas
 pub mod LimitLemmas
 pub mod OtherKeyLemmas
+pub mod RemoveLemmas
 pub mod RoomLemmas
 pub mod RulesLemmas
 pub mod SealLemmas

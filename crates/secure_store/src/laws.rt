@@ -19,7 +19,7 @@ ghost use Rattle.secure_store.specs.Laws.{HealsKey, LeavesOthers, MaySeal, Shows
 ghost use Rattle.secure_store.specs.Sealing.{tag_of};
 ghost use Rattle.secure_store.specs.Limits.{HasRooms, IsSecure};
 ghost use Rattle.secure_store.specs.View.{Absent, Held};
-ghost use Rattle.secure_store.specs.SecureStep.{secure_rules, secure_step};
+ghost use Rattle.secure_store.specs.SecureStep.{secure_rules, secure_step, view};
 
 /// The rules of a secure store are rules of a store: what a call does is no refusal, a get, a part
 /// and an info read one value alike, and iterators are those of every store.
@@ -29,8 +29,8 @@ pub fn secure_rules_are_rules()
         → SharesIterators constants.hash_bits (secure_rules constants) }
 {}
 
-/// A sealed value takes a fixed size more than the value, its tag is the CMAC of its record, and the
-/// largest one is as long as a value of the store below may be.
+/// A sealed value takes a fixed size more than the value, its tag is the CMAC of its record, and
+/// the largest one is as long as a value of the store below may be.
 pub fn sealed_values_have_their_size()
     ensures size { (root key : List ℕ) (flags iv : ℕ) (prior : Option (List ℕ)) (value : List ℕ)
         → MaySeal flags iv prior value
@@ -96,9 +96,9 @@ pub fn a_cut_set_is_whole_or_absent()
     secure_record::laws::sealed_records_have_their_form();
 }
 
-/// After a power cut or a failed write in any set, remove or reset, or in a finish, a mount shows of
-/// the key what it would have shown before, or what the call makes of it, or that the two stores
-/// don't belong together. It never shows a third value.
+/// After a power cut or a failed write in any set, remove or reset, or in a finish, a mount shows
+/// of the key what it would have shown before, or what the call makes of it, or that the two
+/// stores don't belong together. It never shows a third value.
 pub fn a_cut_shows_no_other_value()
     ensures set { (constants : Constants) (state : StoreState) (who : ℕ) (key value : List ℕ)
         (flags : ℕ) → IsSecure state
@@ -116,6 +116,16 @@ pub fn a_cut_shows_no_other_value()
 {
     secure_record::laws::sealed_records_are_opened();
 }
+
+/// After a remove that is done the key is absent, and after a reset every key.
+pub fn a_removed_key_is_absent()
+    ensures remove { (constants : Constants) (state : StoreState) (who : ℕ) (key : List ℕ)
+        → (secure_step constants state who (Remove key)).reply ≡ Done
+        → view constants (secure_step constants state who (Remove key)).state key ≡ Absent }
+    ensures reset { (constants : Constants) (state : StoreState) (who : ℕ) (key : List ℕ)
+        → (secure_step constants state who Reset).reply ≡ Done
+        → view constants (secure_step constants state who Reset).state key ≡ Absent }
+{}
 
 /// Whatever a cut of a set, a remove or a finish leaves, both stores hold of every other key what
 /// they held.
