@@ -278,3 +278,38 @@ one_reading root key m n v w tags valid_m valid_n long_m long_n same =
     let two = unseal_sealed root key n w valid_n long_n (tags _ _) in
     let opens = some_same _ _ (sym one ∙ ap (unseal root key) same ∙ two) in
     (some_same m n (sym first ∙ ap (λ (xs : List ℕ). metadata_of (take 40 xs) (length xs)) same ∙ second), ap (λ (o : Opened). o.value) opens)
+
+-- ---- the size of a record
+
+pub length-sealed : (root key : List ℕ) (m : Metadata) (value : List ℕ) → IsMetadata m → length value ≡ m.size
+    → length (record_tag root key m (stored root key m.flags m.vector value)) ≡ 16 → length (sealed root key m value) ≡ record_size m
+unfolding sealed
+length-sealed root key m value valid long tag_long =
+    let bytes : List ℕ = stored root key m.flags m.vector value in
+    omega (
+      arith,
+      length-append (spelling m ++ bytes) (record_tag root key m bytes),
+      length-append (spelling m) bytes,
+      length-spelling m valid,
+      length-stored root key m.flags m.vector value,
+      long,
+      tag_long,
+    )
+
+-- the CMAC stands at its end
+pub tag_at_end : (root key : List ℕ) (m : Metadata) (value : List ℕ) → length (record_tag root key m (stored root key m.flags m.vector value)) ≡ 16
+    → drop (length (sealed root key m value) - 16) (sealed root key m value) ≡ record_tag root key m (stored root key m.flags m.vector value)
+unfolding sealed
+tag_at_end root key m value tag_long =
+    let bytes : List ℕ = stored root key m.flags m.vector value in
+    let tag : List ℕ = record_tag root key m bytes in
+    drop_at (spelling m ++ bytes) tag (length (spelling m ++ bytes ++ tag) - 16) (omega (arith, length-append (spelling m ++ bytes) tag, tag_long))
+
+-- the metadata stands in front
+pub metadata_of_sealed : (root key : List ℕ) (m : Metadata) (value : List ℕ) → IsMetadata m → length value ≡ m.size
+    → length (record_tag root key m (stored root key m.flags m.vector value)) ≡ 16
+    → metadata_of (take 40 (sealed root key m value)) (length (sealed root key m value)) ≡ Some m
+unfolding sealed
+metadata_of_sealed root key m value valid long tag_long =
+    metadata_of_record m (stored root key m.flags m.vector value) (record_tag root key m (stored root key m.flags m.vector value)) valid
+    (length-stored root key m.flags m.vector value ∙ long) tag_long

@@ -1,8 +1,8 @@
 //! What the definitions of sealed records mean together.
-ghost use Rattle.std.specs.Prelude.{◌≡◌, ◌<◌, ◌≤◌, ◌^◌, ℕ, List, length, take, IsTrue, Option, Some, None};
+ghost use Rattle.std.specs.Prelude.{◌≡◌, ◌<◌, ◌≤◌, ◌-◌, ◌^◌, ℕ, List, length, take, drop, IsTrue, Option, Some, None};
 ghost use Rattle.kv_model.specs.Flags.{is_secure_flags};
-ghost use Rattle.secure_record.specs.Metadata.{metadata_of, HasPrior, IsMetadata};
-ghost use Rattle.secure_record.specs.Sealed.{seal, seal1, sealed, sealed_vector, sealed_vector1};
+ghost use Rattle.secure_record.specs.Metadata.{metadata_of, record_size, HasPrior, IsMetadata};
+ghost use Rattle.secure_record.specs.Sealed.{record_tag, seal, seal1, sealed, sealed_vector, sealed_vector1, stored};
 ghost use Rattle.secure_record.specs.Unseal.{unseal, IsInParts, Opened, WasSealed};
 ghost use Rattle.secure_record.specs.declared.metadata.Metadata.{Metadata};
 ghost use Rattle.secure_record.specs.declared.metadata.Revision.TheVariants.{Second};
@@ -48,3 +48,20 @@ pub fn metadata_divides_records()
     ensures none { (root key bytes : List ℕ)
         → metadata_of (take 40 bytes) (length bytes) ≡ None → unseal root key bytes ≡ None }
 {}
+
+/// A record begins with its metadata and has the size that this says; its last 16 bytes are its
+/// CMAC.
+pub fn sealed_records_have_their_form()
+    ensures size { (root key : List ℕ) (m : Metadata) (value : List ℕ)
+        → IsMetadata m → length value ≡ m.size
+        → length (sealed root key m value) ≡ record_size m }
+    ensures tag { (root key : List ℕ) (m : Metadata) (value : List ℕ)
+        → drop (length (sealed root key m value) - 16) (sealed root key m value)
+        ≡ record_tag root key m (stored root key m.flags m.vector value) }
+    ensures metadata { (root key : List ℕ) (m : Metadata) (value : List ℕ)
+        → IsMetadata m → length value ≡ m.size
+        → metadata_of (take 40 (sealed root key m value)) (length (sealed root key m value))
+        ≡ Some m }
+{
+    cipher_core::laws::cmacs_have_sixteen_bytes();
+}

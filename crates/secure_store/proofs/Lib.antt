@@ -1,0 +1,12 @@
+pub mod AnyCutLemmas
+pub mod CutLemmas
+pub mod FinishLemmas
+pub mod HealLemmas
+pub mod LimitLemmas
+pub mod OtherKeyLemmas
+pub mod RemoveLemmas
+pub mod RoomLemmas
+pub mod RulesLemmas
+pub mod SealLemmas
+pub mod SetLemmas
+pub mod ViewLemmas
