@@ -5,7 +5,7 @@ ghost use Rattle.base_core.specs.Units.{up};
 ghost use Rattle.base_core.specs.Sizes.{record_size};
 
 /// The least multiple of the program unit that is not less than `size`.
-#[tactic(auto, unfolding(kv_model::specs::Sizes::up))]
+#[tactic(auto, unfolding(base_core::specs::Units::up))]
 pub fn padded_size(prog: u32, size: u32) -> u32
     requires positive { 0 < prog }
     requires fits { size + prog ≤ 2 ^ 32 }
