@@ -1,25 +1,20 @@
 -- What each moment of a format leaves of an image without a valid area.
-use Rattle.std.proofs.Common.{◌≡◌, ◌⊎◌, ℕ, zero, suc, ◌+◌, ◌-◌, ◌*◌, ◌<◌, ◌≤◌, ◌^◌, List, [], length, get_or, replicate, refl, sym, ◌∙◌, ap, subst, arith, inl, inr, ⊎_elim, Some, None, suc-mul, zero-mul}
+use Rattle.std.proofs.Common.{◌≡◌, ℕ, zero, suc, ◌+◌, ◌*◌, ◌<◌, ◌≤◌, List, length, get_or, replicate, refl, sym, ◌∙◌, ap, subst, arith, inl, inr, ⊎_elim, Some, None, suc-mul, zero-mul}
 use Rattle.std.specs.Prelude.{Option}
-use Rattle.std.proofs.lemmas.Bool.{cases_lt}
-use Rattle.std.proofs.lemmas.List.{length-replicate, length-take-le}
-use Rattle.base_core.specs.Sizes.{master_size}
-use Rattle.base_core.specs.Units.{up}
-use Rattle.base_core.proofs.UnitLemmas.{up-ge}
+use Rattle.std.proofs.lemmas.List.{length-replicate}
 use Rattle.flash_core.specs.declared.geometry.Geometry.{Geometry}
-use Rattle.flash_core.specs.Calls.{IsMomentWithin}
 use Rattle.flash_core.specs.Erases.{ErasesUnits, erased_from}
-use Rattle.flash_core.specs.Images.{Torn, part, put}
+use Rattle.flash_core.specs.Images.{Torn, put}
 use Rattle.flash_core.specs.Sizes.{IsValid, area_size, size_of}
 use Rattle.flash_core.specs.State.{DeviceCall}
 use Rattle.flash_core.proofs.EraseLaws.{IsErased-erased, Torn-erased, erased_none, length-erased}
-use Rattle.flash_core.proofs.GeometryLaws.{prog_positive, size-areas}
-use Rattle.flash_core.proofs.ImageLaws.{IsErased-put, Torn-put, Torn-trans, Torn-widen, length-put}
+use Rattle.flash_core.proofs.GeometryLaws.{size-areas}
+use Rattle.flash_core.proofs.ImageLaws.{IsErased-put, Torn-put, Torn-trans, Torn-widen}
 use Rattle.std.proofs.Math.Nat.{mul-le-mul_right}
 use Rattle.record_core.specs.Chance.{FirstBreak}
 use Rattle.record_core.specs.CutMoments.{CutStrictly, IsCut, no_contents}
 use Rattle.record_core.specs.Cuts.{IsMasterCall, base_of}
-use Rattle.record_core.specs.Mounts.{Contents, Holds, MasterAt}
+use Rattle.record_core.specs.Mounts.{Holds}
 use Rattle.record_core.proofs.CutLemmas.{call_cut, cut_break, cut_sound, same_chance}
 use Rattle.record_core.proofs.Existence.{master_within}
 use Rattle.record_core.proofs.TornLemmas.{erased_has_none, master_stays, torn_erase, zero_base}
