@@ -18,13 +18,15 @@ use Rattle.flash_core.proofs.ImageLaws.{Torn-put, Torn-refl, Torn-widen, length-
 use Rattle.flash_core.proofs.MomentLaws.{Within-moment_within, Within-trans, Within-widen}
 use Rattle.kv_model.specs.Keys.{master_key}
 use Rattle.kv_model.specs.Write.{Write}
+use Rattle.record_core.specs.CutMoments.{CutStrictly}
 use Rattle.record_core.specs.Cuts.{base_of}
+use Rattle.record_core.specs.Mounts.{Contents, Holds}
 use Rattle.record_core.specs.Log.{extent}
 use Rattle.record_core.specs.Record.{master_bytes, master_value, record_bytes, record_header, record_payload}
-use Rattle.record_core.specs.Renewal.{BehindHeader, CompletesArea, FillsArea, HeaderLast, RenewsArea, behind_header, blanked}
+use Rattle.record_core.specs.Renewal.{BehindHeader, CompletesArea, FillsArea, HeaderLast, IsBlank, RenewsArea, behind_header, blanked}
 use Rattle.record_core.specs.Written.{AppendsRecord, master_of}
 use Rattle.record_core.proofs.RecordLemmas.{length-record_header, length-record_payload}
-use Rattle.record_core.proofs.RenewalCuts.{area_inside}
+use Rattle.record_core.proofs.RenewalCuts.{area_inside, completes_cuts}
 use Rattle.record_core.proofs.WithinLemmas.{Within-appends, Within-ascends}
 use Rattle.record_core.proofs.WriterLemmas.{put-before}
 
@@ -131,6 +133,13 @@ module _ (g : Geometry) (valid : IsValid g) (k : ℕ) (number : (k ≡ 0) ⊎ (k
         whole = subst W (sym (put-before image base header payload fits)) whole;
         moment = moment;
       })
+
+-- what each moment of a master record's write leaves
+pub master_write_cuts : (g : Geometry) (valid : IsValid g) (image : List ℕ) → length image ≡ size_of g → (c : Contents) (k : ℕ) → IsBlank g image c k → (version : ℕ) (call : Option DeviceCall) (now : List ℕ)
+    → AppendsRecord g.prog (base_of g k) (master_of version) image call now → CutStrictly g (λ left. Holds g left c ⊎ (left ≡ put image (base_of g k) (master_bytes g.prog version))) call now
+master_write_cuts g valid image sized c k blank version call now appends =
+    let W : List ℕ → Type 0 = λ left. left ≡ put image (base_of g k) (master_bytes g.prog version) in
+    completes_cuts g valid image sized c k blank W call now (master_completes g valid k blank.spare.number image sized W version refl call now appends)
 
 -- behind a fill, more of it
 pub behind_more : (g : Geometry) (k : ℕ) (image filled : List ℕ) (call : Option DeviceCall) (now : List ℕ) → BehindHeader g k image None filled → BehindHeader g k filled call now → BehindHeader g k image call now

@@ -2,7 +2,7 @@
 // its contract is the law.
 ghost use Rattle.std.specs.Prelude.{◌≡◌, ◌⊎◌, ◌<◌, ◌≤◌, ℕ, List, [], ◌∷◌, ◌++◌, length, slice_index, IsTrue, Option, Some, None};
 ghost use Rattle.flash_core.specs.declared.geometry.Geometry.{Geometry};
-ghost use Rattle.flash_core.specs.Images.{Torn};
+ghost use Rattle.flash_core.specs.Images.{Torn, put};
 ghost use Rattle.flash_core.specs.Sizes.{IsValid, area_size, size_of};
 ghost use Rattle.kv_model.specs.FlaggedMap.{FlaggedMap};
 ghost use Rattle.base_core.specs.Sizes.{master_size};
@@ -14,6 +14,7 @@ ghost use Rattle.flash_core.specs.Erases.{ErasesUnits, erased_from};
 ghost use Rattle.record_core.specs.CutMoments.{CutStrictly, HoldsOneOf, MayAppend, MountsToOne, no_contents};
 ghost use Rattle.record_core.specs.Header.{IsHeader};
 ghost use Rattle.record_core.specs.Written.{AppendsRecord, master_of};
+ghost use Rattle.record_core.specs.Record.{master_bytes};
 ghost use Rattle.record_core.specs.Renewal.{CompletesArea, FillsArea, HoldsStill, IsBlank, IsSpare, RenewsArea};
 ghost use Rattle.record_core.specs.Cuts.{IsApart, IsHeaderCall, IsInArea, IsMasterCall, active_of, base_of, with_version};
 ghost use Rattle.record_core.specs.Mounts.{Contents, Holds, Mounts};
@@ -119,6 +120,18 @@ pub fn renewed_area_is_whole_or_unseen()
         → length image ≡ size_of g → IsBlank g image c k → (call : Option DeviceCall)
         (now : List ℕ) → CompletesArea g k (λ left. Holds g left next) image call now
         → CutStrictly g (λ left. Holds g left c ⊎ Holds g left next) call now }
+{}
+
+/// At each moment of the write of a master record over an area that isn't active, whose first byte
+/// is erased, the image holds what it held, or it is the one with the whole record, as far as
+/// chance goes; and the first record that is there by chance stands at the first byte of the call
+/// that was cut off.
+pub fn master_write_is_whole_or_unseen()
+    ensures { (g : Geometry) (image : List ℕ) (c : Contents) (k version : ℕ) → IsValid g
+        → length image ≡ size_of g → IsBlank g image c k → (call : Option DeviceCall)
+        (now : List ℕ) → AppendsRecord g.prog (base_of g k) (master_of version) image call now
+        → CutStrictly g (λ left. Holds g left c
+        ⊎ (left ≡ put image (base_of g k) (master_bytes g.prog version))) call now }
 {}
 
 /// At each moment of a format (the units of area 0 erased in ascending order, and then the master

@@ -6,6 +6,7 @@ ghost use Rattle.flash_core.specs.Images.{IsErased, part, put};
 ghost use Rattle.flash_core.specs.Sizes.{IsValid};
 ghost use Rattle.flash_core.specs.State.{OnImage};
 ghost use Rattle.kv_model.specs.Keys.{master_key};
+ghost use Rattle.kv_model.specs.declared.limits.TheConstants.{MAX_VALUE};
 ghost use Rattle.base_core.specs.Units.{up};
 ghost use Rattle.base_core.specs.Sizes.{master_size, record_size};
 ghost use Rattle.kv_model.specs.declared.error.KvError.TheVariants.{WriteFault};
@@ -132,7 +133,7 @@ fn program_payload<F: Flash>(
 // The header of a record of this payload.
 pub(crate) fn header_for(flags: u32, payload: &Payload) -> Header
     requires key { length payload.now.key.now ≤ 128 }
-    requires value { length payload.now.value.now ≤ 65592 }
+    requires value { length payload.now.value.now ≤ MAX_VALUE }
     ensures { result ≡ header_of flags payload.now.key.now payload.now.value.now }
 {
     let header = Header {
