@@ -1,20 +1,20 @@
 -- What each moment leaves at which a record that was begun is finished.
-use Rattle.std.proofs.Common.{◌≡◌, ◌⊎◌, ℕ, ◌+◌, ◌<◌, ◌≤◌, List, length, sym, ◌∙◌, ap, subst, arith, inl, inr, ⊎_elim, refl, Some, None}
+use Rattle.std.proofs.Common.{◌≡◌, ◌⊎◌, ℕ, ◌+◌, ◌≤◌, List, length, sym, ◌∙◌, subst, arith, inl, inr, ⊎_elim, refl, Some, None}
 use Rattle.std.specs.Prelude.{Option}
 use Rattle.base_core.specs.Units.{up}
 use Rattle.base_core.proofs.UnitLemmas.{up-ge}
 use Rattle.flash_core.specs.declared.geometry.Geometry.{Geometry}
 use Rattle.flash_core.specs.Calls.{IsMomentWithin}
 use Rattle.flash_core.specs.Images.{Torn, put}
-use Rattle.flash_core.specs.Sizes.{IsValid, area_size, size_of}
+use Rattle.flash_core.specs.Sizes.{IsValid, size_of}
 use Rattle.flash_core.specs.State.{DeviceCall, after_of, before_of}
 use Rattle.flash_core.proofs.GeometryLaws.{prog_positive}
 use Rattle.flash_core.proofs.ImageLaws.{Torn-put}
 use Rattle.kv_model.specs.FlaggedMap.{FlaggedMap}
 use Rattle.kv_model.specs.Write.{map_of}
 use Rattle.record_core.specs.CutMoments.{CutStrictly, IsCut, MountsToOne}
-use Rattle.record_core.specs.Cuts.{IsHeaderCall, base_of}
-use Rattle.record_core.specs.Finishing.{FinishesRecord, HeaderAtEnd, InPayload, IsBegun}
+use Rattle.record_core.specs.Cuts.{IsHeaderCall}
+use Rattle.record_core.specs.Finishing.{FinishesRecord, InPayload, IsBegun}
 use Rattle.record_core.specs.Mounts.{Contents, Holds, Mounts}
 use Rattle.record_core.proofs.ChanceLemmas.{no_chance_after}
 use Rattle.record_core.proofs.CutLemmas.{call_cut, cut_break, cut_sound, same_chance}
