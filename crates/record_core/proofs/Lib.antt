@@ -4,6 +4,7 @@ pub mod CrcByTable
 pub mod CutLemmas
 pub mod EndingLemmas
 pub mod Existence
+pub mod FinishingCuts
 pub mod FormatCuts
 pub mod HeaderLemmas
 pub mod LogLemmas

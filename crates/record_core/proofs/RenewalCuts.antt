@@ -1,8 +1,7 @@
 -- What each moment leaves at which an area that isn't active is made new.
-use Rattle.std.proofs.Common.{◌≡◌, ◌⊎◌, ℕ, zero, suc, ◌+◌, ◌-◌, ◌<◌, ◌≤◌, List, length, get_or, replicate, refl, sym, ◌∙◌, ap, subst, arith, inl, inr, ⊎_elim, Some, None}
+use Rattle.std.proofs.Common.{◌≡◌, ◌⊎◌, ℕ, zero, suc, ◌+◌, ◌-◌, ◌≤◌, List, length, get_or, replicate, refl, sym, ◌∙◌, ap, subst, arith, inl, inr, ⊎_elim, Some, None}
 use Rattle.std.specs.Prelude.{Option}
 use Rattle.std.proofs.lemmas.List.{length-replicate}
-use Rattle.base_core.specs.Sizes.{master_size}
 use Rattle.base_core.specs.Units.{up}
 use Rattle.base_core.proofs.UnitLemmas.{up-ge}
 use Rattle.flash_core.specs.declared.geometry.Geometry.{Geometry}
@@ -13,14 +12,13 @@ use Rattle.flash_core.specs.State.{DeviceCall, after_of, before_of}
 use Rattle.flash_core.proofs.EraseLaws.{length-erased}
 use Rattle.flash_core.proofs.GeometryLaws.{erase_le_area, prog_positive, size-areas}
 use Rattle.flash_core.proofs.ImageLaws.{IsErased-put, Torn-put}
-use Rattle.record_core.specs.Chance.{AllStand, FirstBreak, NoChance}
+use Rattle.record_core.specs.Chance.{AllStand, NoChance}
 use Rattle.record_core.specs.CutMoments.{CutStrictly, IsCut}
-use Rattle.record_core.specs.Cuts.{IsInArea, IsMasterCall, active_of, base_of, version_of, with_version}
-use Rattle.record_core.specs.Mounts.{Contents, Holds, MasterAt, reads_of}
+use Rattle.record_core.specs.Cuts.{IsMasterCall, base_of, version_of, with_version}
+use Rattle.record_core.specs.Mounts.{Contents, Holds, reads_of}
 use Rattle.record_core.specs.Renewal.{BehindHeader, CompletesArea, FillsArea, HeaderLast, HoldsStill, IsBlank, IsSpare, RenewsArea, behind_header, blanked}
 use Rattle.record_core.proofs.ChanceLemmas.{no_chance_after, stand_after}
 use Rattle.record_core.proofs.CutLemmas.{call_cut, cut_break, cut_sound, same_chance}
-use Rattle.record_core.proofs.Existence.{master_within}
 use Rattle.record_core.proofs.MountLemmas.{one_contents, one_version, reads_stand}
 use Rattle.record_core.proofs.TornLemmas.{active_without, apart_in_spare, contents_stay, erased_has_none, holds_with, master_at, one_base, torn_erase, torn_master_header, zero_base}
 

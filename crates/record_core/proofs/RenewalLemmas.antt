@@ -1,20 +1,19 @@
 -- Which runs make an area new: the erase of its units, writes behind the place of its header, and its master record's.
-use Rattle.std.proofs.Common.{◌≡◌, ◌⊎◌, ℕ, zero, suc, ◌+◌, ◌-◌, ◌*◌, ◌<◌, ◌≤◌, List, length, replicate, refl, sym, ◌∙◌, ap, subst, arith, inl, inr, Some, None, suc-mul, zero-mul}
+use Rattle.std.proofs.Common.{◌≡◌, ◌⊎◌, ℕ, zero, suc, ◌+◌, ◌-◌, ◌*◌, ◌<◌, ◌≤◌, List, length, replicate, refl, sym, subst, arith, inl, inr, Some, None, suc-mul, zero-mul}
 use Rattle.std.specs.Prelude.{Option}
 use Rattle.std.proofs.lemmas.List.{length-replicate}
 use Rattle.std.proofs.Math.Nat.{mul-le-mul_right}
-use Rattle.base_core.specs.Sizes.{master_size}
 use Rattle.base_core.specs.Units.{up}
 use Rattle.flash_core.specs.declared.geometry.Geometry.{Geometry}
 use Rattle.flash_core.specs.Calls.{IsMomentWithin}
-use Rattle.flash_core.specs.Erases.{ErasesUnits, FirstErased, InErase, erased_from}
+use Rattle.flash_core.specs.Erases.{ErasesUnits, erased_from}
 use Rattle.flash_core.specs.Images.{Torn, put}
 use Rattle.flash_core.specs.Sizes.{IsValid, area_size, size_of}
 use Rattle.flash_core.specs.State.{DeviceCall}
 use Rattle.flash_core.specs.TwoPrograms.{payload_put}
 use Rattle.flash_core.proofs.EraseLaws.{erased_more, erased_none, length-erased}
 use Rattle.flash_core.proofs.GeometryLaws.{erase_le_area, prog_positive}
-use Rattle.flash_core.proofs.ImageLaws.{Torn-put, Torn-refl, Torn-widen, length-put}
+use Rattle.flash_core.proofs.ImageLaws.{Torn-put, Torn-widen}
 use Rattle.flash_core.proofs.MomentLaws.{Within-moment_within, Within-trans, Within-widen}
 use Rattle.kv_model.specs.Keys.{master_key}
 use Rattle.kv_model.specs.Write.{Write}
@@ -23,7 +22,7 @@ use Rattle.record_core.specs.Cuts.{base_of}
 use Rattle.record_core.specs.Mounts.{Contents, Holds}
 use Rattle.record_core.specs.Log.{extent}
 use Rattle.record_core.specs.Record.{master_bytes, master_value, record_bytes, record_header, record_payload}
-use Rattle.record_core.specs.Renewal.{BehindHeader, CompletesArea, FillsArea, HeaderLast, IsBlank, RenewsArea, behind_header, blanked}
+use Rattle.record_core.specs.Renewal.{BehindHeader, CompletesArea, FillsArea, IsBlank, RenewsArea, behind_header, blanked}
 use Rattle.record_core.specs.Written.{AppendsRecord, master_of}
 use Rattle.record_core.proofs.RecordLemmas.{length-record_header, length-record_payload}
 use Rattle.record_core.proofs.RenewalCuts.{area_inside, completes_cuts}

@@ -2,6 +2,7 @@ pub mod Chance
 pub mod CutMoments
 pub mod Cuts
 pub mod Endings
+pub mod Finishing
 pub mod Header
 pub mod Log
 pub mod Lookup

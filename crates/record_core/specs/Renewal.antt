@@ -1,11 +1,11 @@
 -- An area that isn't active is made new: it is erased and filled, and its master record's header comes last. A format
 -- does so, and a collection.
-use Rattle.std.specs.Prelude.{◌≡◌, ◌⊎◌, ℕ, ◌+◌, ◌-◌, ◌≤◌, List, length, replicate, slice_index, Option, Some, None}
+use Rattle.std.specs.Prelude.{◌≡◌, ◌⊎◌, ℕ, ◌+◌, ◌-◌, List, length, replicate, slice_index, Option, Some, None}
 use Rattle.base_core.specs.Units.{up}
 use Rattle.flash_core.specs.declared.geometry.Geometry.{Geometry}
 use Rattle.flash_core.specs.Calls.{IsMomentWithin}
 use Rattle.flash_core.specs.Erases.{erased_from}
-use Rattle.flash_core.specs.Images.{Torn, put}
+use Rattle.flash_core.specs.Images.{put}
 use Rattle.flash_core.specs.Moments.{Within}
 use Rattle.flash_core.specs.Sizes.{area_size}
 use Rattle.flash_core.specs.State.{DeviceCall}

@@ -12,6 +12,7 @@ ghost use Rattle.kv_model.specs.Keys.{is_key};
 ghost use Rattle.kv_model.specs.Write.{Write, map_of};
 ghost use Rattle.flash_core.specs.Erases.{ErasesUnits, erased_from};
 ghost use Rattle.record_core.specs.CutMoments.{CutStrictly, HoldsOneOf, MayAppend, MountsToOne, no_contents};
+ghost use Rattle.record_core.specs.Finishing.{FinishesRecord, InPayload, IsBegun};
 ghost use Rattle.record_core.specs.Header.{IsHeader};
 ghost use Rattle.record_core.specs.Written.{AppendsRecord, master_of};
 ghost use Rattle.record_core.specs.Record.{master_bytes};
@@ -132,6 +133,27 @@ pub fn master_write_is_whole_or_unseen()
         (now : List ℕ) → AppendsRecord g.prog (base_of g k) (master_of version) image call now
         → CutStrictly g (λ left. Holds g left c
         ⊎ (left ≡ put image (base_of g k) (master_bytes g.prog version))) call now }
+{}
+
+/// A record that was begun behind the records of the active area, in as many pieces as there are: at
+/// each moment of its payload the image holds what it held and mounts as it did, and at each moment
+/// at which it is finished, with its header last, that or what the whole record makes of it, as far
+/// as chance goes; and the first record that is there by chance stands at the first byte of the
+/// call that was cut off.
+pub fn begun_record_is_whole_or_unseen()
+    ensures payload { (g : Geometry) (image : List ℕ) (c : Contents) (k n : ℕ) → IsValid g
+        → length image ≡ size_of g → IsBegun g image c k n → (call : Option DeviceCall)
+        (now : List ℕ) → InPayload g c.end n image call now
+        → CutStrictly g (λ left. Holds g left c) call now }
+    ensures finish { (g : Geometry) (image : List ℕ) (c next : Contents) (k n : ℕ) → IsValid g
+        → length image ≡ size_of g → IsBegun g image c k n → (call : Option DeviceCall)
+        (now : List ℕ) → FinishesRecord g c.end n (λ left. Holds g left next) image call now
+        → CutStrictly g (λ left. Holds g left c ⊎ Holds g left next) call now }
+    ensures map { (g : Geometry) (image : List ℕ) (c : Contents) (k n : ℕ) (next : FlaggedMap)
+        → IsValid g → length image ≡ size_of g → IsBegun g image c k n
+        → (call : Option DeviceCall) (now : List ℕ)
+        → FinishesRecord g c.end n (λ left. Mounts g left next) image call now
+        → CutStrictly g (MountsToOne g (map_of c.records) next) call now }
 {}
 
 /// At each moment of a format (the units of area 0 erased in ascending order, and then the master
