@@ -1,12 +1,11 @@
 // An area, what is appended to it, and its tail.
-ghost use Rattle.std.specs.Prelude.{◌≡◌, ◌↔◌, ◌+◌, ◌-◌, ◌≤◌, length, IsTrue, IfOk, IfErr, Some};
+ghost use Rattle.std.specs.Prelude.{◌≡◌, ◌↔◌, ◌+◌, ◌-◌, length, IsTrue, IfOk, IfErr, Some};
 ghost use Rattle.std.specs.Option.{ForSome};
 ghost use Rattle.base_core.specs.Sizes.{record_size};
 ghost use Rattle.base_core.specs.Units.{IsMultipleOf};
 ghost use Rattle.flash_core.specs.Images.{IsErased, put};
 ghost use Rattle.flash_core.specs.Moments.{Within};
 ghost use Rattle.flash_core.specs.Runs.{RunsBy};
-ghost use Rattle.flash_core.specs.Sizes.{IsValid};
 ghost use Rattle.flash_core.specs.State.{OnImage};
 ghost use Rattle.kv_model.specs.declared.error.KvError.TheVariants.{WriteFault};
 ghost use Rattle.record_core.specs.Endings.{kv_ended};

@@ -1,5 +1,5 @@
 // The value of a record, read back from an area.
-ghost use Rattle.std.specs.Prelude.{◌≡◌, ◌≢◌, ◌⊎◌, ◌+◌, ◌-◌, ◌<◌, ◌≤◌, List, ℕ, length, replicate, IfOk, IfErr, OnErr};
+ghost use Rattle.std.specs.Prelude.{◌≡◌, ◌⊎◌, ◌+◌, ◌-◌, ◌<◌, ◌≤◌, length, replicate, IfOk, IfErr, OnErr};
 ghost use Rattle.flash_core.specs.Calls.{OnlyReads};
 ghost use Rattle.flash_core.specs.Runs.{IsCounted};
 ghost use Rattle.flash_core.specs.Sizes.{IsValid as IsValidGeometry, size_of};

@@ -1,7 +1,7 @@
 // Areas of 256 bytes on devices in memory.
-ghost use Rattle.std.specs.Prelude.{◌≡◌, ◌≤◌, List, ℕ, map, length, IfOk, replicate};
+ghost use Rattle.std.specs.Prelude.{◌≡◌, ◌≤◌, map, IfOk, replicate};
 ghost use Rattle.flash_core.specs.RecordDevice.{IsMemoryOf};
-ghost use Rattle.flash_core.specs.Sizes.{IsValid, size_of};
+ghost use Rattle.flash_core.specs.Sizes.{IsValid};
 ghost use Rattle.area_log.specs.Listing.{Found};
 
 use super::*;

@@ -1,12 +1,12 @@
 // A set whose value comes in pieces.
 ghost use Rattle.std.specs.Prelude.{◌≡◌, ◌+◌, ◌%◌, ◌≤◌, ℕ, List, [], ◌++◌, length, take, IsTrue, IfErr, IfOk, OnErr, OnOk, Option};
+ghost use Rattle.std.specs.Option.{ForSome};
 ghost use Rattle.std.specs.Int.{is_power_of_two};
 ghost use Rattle.base_core.specs.Sizes.{record_size};
 ghost use Rattle.base_core.specs.Units.{IsMultipleOf};
 ghost use Rattle.flash_core.specs.declared.geometry.Geometry.{Geometry};
 ghost use Rattle.flash_core.specs.Images.{IsErased};
 ghost use Rattle.flash_core.specs.Sizes.{IsValid};
-ghost use Rattle.flash_core.specs.State.{IfTold};
 ghost use Rattle.kv_model.specs.declared.error.KvError.TheVariants.{WriteFault};
 ghost use Rattle.record_core.specs.Cuts.{IsInArea};
 ghost use Rattle.record_core.specs.Endings.{kv_ended};
@@ -30,13 +30,6 @@ pub struct OpenSet {
     pub(crate) crc: u32,
 }
 
-// The key again, without memory.
-fn copy_of(key: &Key) -> Key
-    ensures { result ≡ key.now }
-{
-    Key::new(key.as_slice()).unwrap()
-}
-
 impl OpenSet {
     ghost use Rattle.inc_set.specs.Sets.{Appends, Feeds, Holds, IsAhead, IsPlaced, opened, set_size, with_bytes};
 
@@ -54,7 +47,7 @@ impl OpenSet {
         ensures holds { (g : Geometry) (told : Option (List ℕ)) (area : ℕ) → IsValid g
             → length rest.old ≡ g.prog
             → IsInArea g area at (record_size g.prog (length key.now) size)
-            → IfTold told (λ image. IsErased image at (record_size g.prog (length key.now) size))
+            → ForSome told (λ image. IsErased image at (record_size g.prog (length key.now) size))
             → Holds g told rest.new result [] }
     {
         let bytes = key.as_slice();
@@ -67,7 +60,7 @@ impl OpenSet {
         let whole = bytes.len() - bytes.len() % rest.len();
         copy_at(rest, 0, &bytes[whole..]);
         OpenSet {
-            key: copy_of(key),
+            key: key.copied(),
             flags,
             size,
             fed: 0,
@@ -115,7 +108,7 @@ impl OpenSet {
         rest: &mut [u8],
     ) -> Result<(), KvError>
         requires placed { IsPlaced (F.state flash.old).geometry rest.old self.old }
-        requires ahead { IfTold (F.state flash.old).image
+        requires ahead { ForSome (F.state flash.old).image
             (λ image. IsAhead (F.state flash.old).geometry image self.old) }
         requires fits { self.old.fed + length bytes.now ≤ self.old.size }
         ensures set { OnOk result (self.new ≡ with_bytes self.old bytes.now) }
@@ -148,7 +141,7 @@ impl OpenSet {
     /// as the calls before left it, and what it holds of the set stays.
     pub fn seal<F: Flash>(&mut self, flash: &mut F, rest: &mut [u8]) -> Result<u32, KvError>
         requires placed { IsPlaced (F.state flash.old).geometry rest.old self.old }
-        requires ahead { IfTold (F.state flash.old).image
+        requires ahead { ForSome (F.state flash.old).image
             (λ image. IsAhead (F.state flash.old).geometry image self.old) }
         requires whole { self.old.fed ≡ self.old.size }
         ensures end { IfOk result (λ end. end ≡ self.old.at

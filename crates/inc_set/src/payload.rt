@@ -1,10 +1,10 @@
 // What a set programs of its key and its value.
 ghost use Rattle.std.specs.Prelude.{◌≡◌, ◌*◌, ◌+◌, ◌-◌, ◌%◌, ◌<◌, ◌≤◌, List, ℕ, ◌++◌, length, replicate, take, IfErr, OnOk};
+ghost use Rattle.std.specs.Option.{ForSome};
 ghost use Rattle.base_core.specs.Units.{up};
 ghost use Rattle.flash_core.specs.Calls.{CanProgram, Writes};
 ghost use Rattle.flash_core.specs.Runs.{ended};
 ghost use Rattle.flash_core.specs.Sizes.{IsValid};
-ghost use Rattle.flash_core.specs.State.{IfTold};
 ghost use Rattle.record_core.specs.Header.{IsHeader};
 ghost use Rattle.record_core.specs.Record.{padded};
 ghost use Rattle.record_core.specs.Written.{CanWrite};
@@ -27,7 +27,7 @@ fn program_key<F: Flash>(
     prog: u32,
 ) -> Result<(), FlashFault>
     requires placed { (rest : List ℕ) × IsPlaced (F.state flash.old).geometry rest set.now }
-    requires ahead { IfTold (F.state flash.old).image
+    requires ahead { ForSome (F.state flash.old).image
         (λ image. IsAhead (F.state flash.old).geometry image set.now) }
     requires unit { prog ≡ (F.state flash.old).geometry.prog }
     requires place { place ≡ payload_place (F.state flash.old).geometry.prog set.now }
@@ -54,7 +54,7 @@ pub(crate) fn push_bytes<F: Flash>(
     rest: &mut [u8],
 ) -> Result<(), FlashFault>
     requires placed { IsPlaced (F.state flash.old).geometry rest.old set.now }
-    requires ahead { IfTold (F.state flash.old).image
+    requires ahead { ForSome (F.state flash.old).image
         (λ image. IsAhead (F.state flash.old).geometry image set.now) }
     requires fits { set.now.fed + length bytes.now ≤ set.now.size }
     ensures programs { Programs (F.state flash.old) (F.state flash.new)
@@ -113,7 +113,7 @@ fn program_rest<F: Flash>(
 // Programs what of the key and the value is not yet programmed, padded.
 fn push_last<F: Flash>(set: &OpenSet, flash: &mut F, rest: &mut [u8]) -> Result<(), FlashFault>
     requires placed { IsPlaced (F.state flash.old).geometry rest.old set.now }
-    requires ahead { IfTold (F.state flash.old).image
+    requires ahead { ForSome (F.state flash.old).image
         (λ image. IsAhead (F.state flash.old).geometry image set.now) }
     requires whole { set.now.fed ≡ set.now.size }
     ensures programs { Programs (F.state flash.old) (F.state flash.new)
@@ -189,7 +189,7 @@ pub(crate) fn finish<F: Flash>(
     rest: &mut [u8],
 ) -> Result<(), FlashFault>
     requires placed { IsPlaced (F.state flash.old).geometry rest.old set.now }
-    requires ahead { IfTold (F.state flash.old).image
+    requires ahead { ForSome (F.state flash.old).image
         (λ image. IsAhead (F.state flash.old).geometry image set.now) }
     requires whole { set.now.fed ≡ set.now.size }
     ensures appends { Appends (F.state flash.old) (F.state flash.new) rest.old set.now

@@ -1,9 +1,9 @@
 // Records that are fed in pieces, on devices of two areas of 32,768 bytes. The CRCs are the
 // complements of what Python's zlib gives.
 ghost use Rattle.std.specs.Prelude.{◌≡◌, ◌≤◌, [], length, IfOk, OnOk};
+ghost use Rattle.std.specs.Option.{ForSome};
 ghost use Rattle.flash_core.specs.Images.{IsErased};
 ghost use Rattle.flash_core.specs.Sizes.{IsValid, size_of};
-ghost use Rattle.flash_core.specs.State.{IfTold};
 ghost use Rattle.inc_set.specs.Sets.{Holds};
 
 use super::*;
@@ -81,7 +81,7 @@ fn write_in_pieces<F: Flash>(
     is_sealed: bool,
 ) -> Result<u32, Fail>
     requires geometry { (F.state flash.old).geometry ≡ geometry }
-    requires erased { IfTold (F.state flash.old).image
+    requires erased { ForSome (F.state flash.old).image
         (λ image. IsErased image 0 (size_of geometry)) }
 {
     assert!(rt; geometry.is_valid() && AT % geometry.prog == 0 && piece >= 1);

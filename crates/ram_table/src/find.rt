@@ -12,13 +12,6 @@ use std::cmp::Ordering;
 use std::marker::Brand;
 use std::sync::ledger::{Blank, Ledger};
 
-// Bytes for `key_at` to write over, without memory.
-fn copy_of(key: &Key) -> Key
-    ensures { result ≡ key.now }
-{
-    Key::new(key.as_slice()).unwrap()
-}
-
 impl RamTable {
     // The first place whose entry has no smaller hash, by halving.
     fn first_of_hash<L: Ledger>(&self, hash: u32, steps: &mut Steps<L>) -> u32
@@ -70,7 +63,7 @@ impl RamTable {
         ensures not_fewer { steps.old ≤ steps.new }
         ensures steps { steps.new ≤ steps.old + count_hash hash self.now.entries + 1 }
     {
-        let mut buffer = copy_of(key);
+        let mut buffer = key.copied();
         for at in first..self.len() {
             let (entry_hash, offset) = self.look(at, steps);
             if entry_hash != hash {

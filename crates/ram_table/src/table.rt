@@ -31,7 +31,7 @@ pub struct RamTable {
 }
 
 impl Model for RamTable {
-    ghost use Rattle.std.specs.Prelude.{◌≤◌, ◌-◌, ℕ, length, min, vec_capacity};
+    ghost use Rattle.std.specs.Prelude.{◌≤◌, ◌-◌, length, min, vec_capacity};
     ghost use Rattle.ram_table.specs.Table.{TableState, most_entries};
 
     ghost Value = { TableState };

@@ -202,7 +202,6 @@ impl<B: HashBits> Builder<B> {
 }
 
 impl<B: HashBits> Visitor for Builder<B> {
-    ghost use Rattle.area_log.specs.Listing.{Found};
     ghost use Rattle.tdb_mount.specs.Index.{IsTable, places_of};
 
     ghost area = { λ builder. builder.area };

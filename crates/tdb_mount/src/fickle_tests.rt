@@ -1,14 +1,10 @@
 // A device that changes a byte between two reads of it, or fails.
-ghost use Rattle.std.specs.Prelude.{◌≡◌, IfOk};
-ghost use Rattle.flash_core.specs.Sizes.{IsValid, size_of};
+ghost use Rattle.std.specs.Prelude.{◌≡◌};
 
 use super::tests::{LOG, MASTER, SMALL, offsets_of};
 use super::*;
-use area_log::Area;
 use flash_core::{Flash, FlashFault, Geometry};
 use kv_model::{Flags, Got, KvError};
-use std::alloc::Global;
-use std::process::Abort;
 use std::test::Fail;
 
 // It tells nothing. So many reads that begin at the place give the bytes of the image, and each one

@@ -1,6 +1,6 @@
 // A format and an append, each of whose writes is the one that fails, and the image that it leaves
 // mounted again.
-ghost use Rattle.std.specs.Prelude.{◌≡◌, IfOk, length};
+ghost use Rattle.std.specs.Prelude.{◌≡◌, IfOk};
 ghost use Rattle.flash_core.specs.RecordDevice.{IsLoggedOf};
 ghost use Rattle.flash_core.specs.Sizes.{IsValid, size_of};
 

@@ -1,8 +1,8 @@
 //! Mounting a device.
-ghost use Rattle.std.specs.Prelude.{◌≡◌, ◌≢◌, ◌↔◌, ◌+◌, ◌*◌, ◌≤◌, ℕ, length, IfOk, IfSome, IfErr};
+ghost use Rattle.std.specs.Prelude.{◌≡◌, ◌↔◌, ◌*◌, ◌≤◌, length, IfOk, IfSome, IfErr};
 ghost use Rattle.std.specs.Option.{ForSome};
 ghost use Rattle.flash_core.specs.Runs.{AnswersFaults, RunsBy};
-ghost use Rattle.flash_core.specs.Sizes.{IsValid, area_size};
+ghost use Rattle.flash_core.specs.Sizes.{IsValid};
 ghost use Rattle.kv_model.specs.declared.error.KvError.{KvError};
 ghost use Rattle.record_core.specs.CutMoments.{Cuts};
 ghost use Rattle.record_core.specs.Endings.{kv_ended};

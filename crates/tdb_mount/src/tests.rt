@@ -1,5 +1,5 @@
 // Mounting devices of 512 bytes whose masters and records another program spelled.
-ghost use Rattle.std.specs.Prelude.{◌≡◌, IfOk};
+ghost use Rattle.std.specs.Prelude.{◌≡◌};
 ghost use Rattle.flash_core.specs.Sizes.{IsValid, size_of};
 
 use super::*;
