@@ -1,6 +1,7 @@
 -- What a store stands for once its device was mounted.
 use Rattle.std.proofs.Common.{◌≡◌, ℕ, ◌+◌, ◌-◌, ◌*◌, ◌≤◌, true, false, List, [], length, inr, refl, sym, ◌∙◌, ap, subst, arith}
 use Rattle.std.specs.Prelude.{Option, Some, None}
+use Rattle.std.specs.Option.{ForSome}
 use Rattle.std.specs.FinMap.{empty}
 use Rattle.base_core.proofs.UnitLemmas.{up-ge}
 use Rattle.flash_core.specs.declared.geometry.Geometry.{Geometry}
@@ -8,7 +9,7 @@ use Rattle.flash_core.specs.Calls.{Keeps}
 use Rattle.flash_core.specs.Images.{part, IsErased, Torn}
 use Rattle.flash_core.specs.Runs.{Done}
 use Rattle.flash_core.specs.Sizes.{IsValid, area_size, size_of}
-use Rattle.flash_core.specs.State.{FlashState, IfSome, IsLawful}
+use Rattle.flash_core.specs.State.{FlashState, IsLawful}
 use Rattle.flash_core.proofs.GeometryLaws.{prog_positive, size-areas}
 use Rattle.flash_core.proofs.ImageLaws.{IsErased-put, IsErased-Torn, IsErased-within, Torn-put, part-Torn}
 use Rattle.base_core.specs.Sizes.{master_size}
@@ -39,7 +40,7 @@ abbrev masters_of : Contents → Masters
 masters_of contents = record { first = contents.first; second = contents.second }
 
 module _ {old new : FlashState} (device : IsTold old) (kept : Keeps old new) (lawful : IsLawful new) (parts : Parts) (safe_then : IsSafe old.geometry parts)
-    (mounted : IfSome new.image (λ image. IsMountOf old.geometry hash_bits image parts)) (clean : parts.clean ≡ true) (area : Area) (area_is : area ≡ area_of new.geometry parts.active) (is_area : IsAreaOf new.geometry area) where
+    (mounted : ForSome new.image (λ image. IsMountOf old.geometry hash_bits image parts)) (clean : parts.clean ≡ true) (area : Area) (area_is : area ≡ area_of new.geometry parts.active) (is_area : IsAreaOf new.geometry area) where
   abbrev g : Geometry
   g = new.geometry
 
