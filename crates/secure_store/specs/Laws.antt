@@ -1,5 +1,6 @@
 -- What the laws of a secure store say.
-use Rattle.std.specs.Prelude.{◌≡◌, ◌≢◌, ◌⊎◌, ℕ, ◌<◌, ◌≤◌, ◌^◌, IsTrue, List, length, Option, Some, None, Contains}
+use Rattle.std.specs.Prelude.{◌≡◌, ◌≢◌, ◌⊎◌, ℕ, ◌<◌, ◌≤◌, ◌^◌, true, IsTrue, List, length, Option, Some, None, Contains}
+use Rattle.std.specs.Option.{option_map, option_map_or}
 use Rattle.std.specs.FinMap.{get}
 use Rattle.kv_model.specs.Constants.{Constants, Secure}
 use Rattle.kv_model.specs.FlaggedMap.{Stored}
@@ -11,9 +12,9 @@ use Rattle.secure_record.specs.declared.metadata.Revision.TheVariants.{Second}
 use Rattle.secure_record.specs.Metadata.{HasPrior}
 use Rattle.secure_store.specs.declared.limits.TheConstants.{MAX_SECURE_VALUE}
 use Rattle.secure_store.specs.Sealing.{secure_of}
-use Rattle.secure_store.specs.View.{View, Held, RollbackFailed, view_of}
+use Rattle.secure_store.specs.View.{View, Held, RollbackFailed, view_by, view_of}
 use Rattle.secure_store.specs.SecureStep.{secure_rules, view}
-use Rattle.secure_store.specs.Heal.{heal, IsHealed}
+use Rattle.secure_store.specs.Heal.{heal, healed_by, metadata_in, IsHealed}
 
 -- a set that is done: the key has the flags and the value that were set, and every other key has the view that it had
 pub record ShowsSet (constants : Constants) (old new : StoreState) (key : List ℕ) (flags : ℕ) (value : List ℕ) : Type 0 where
@@ -57,3 +58,18 @@ LeavesKey old new key = (get new.primary key ≡ get old.primary key) × (get ne
 abbrev pub LeavesOthers : Constants → StoreState → ℕ → Operation → List ℕ → Type 0
 LeavesOthers constants state who operation key = (maps : Maps) → Contains (cuts (secure_rules constants) state who operation) maps
     → (other : List ℕ) → other ≢ key → LeavesKey (maps_of state) maps other
+
+-- a key's tag once the set that was cut is completed, if there is room for it
+abbrev pub completed : Secure → Maps → List ℕ → Stored → Stored
+completed secure maps key tag = option_map_or (λ (s : Stored). healed_by true s.bytes (metadata_in secure.root key s.bytes) tag) (get maps.primary key) tag
+
+abbrev pub completed_view : Constants → Maps → List ℕ → View
+completed_view constants maps key =
+    view_by (secure_of constants).root key (get maps.primary key) (option_map (completed (secure_of constants) maps key) (get maps.rollback key))
+
+-- Whatever a cut leaves, a mount then shows of every other key the view that it had, or the one that completing its own
+-- set gives it.
+abbrev pub ShowsOthers : Constants → StoreState → ℕ → Operation → List ℕ → Type 0
+ShowsOthers constants state who operation key = (maps : Maps) → Contains (cuts (secure_rules constants) state who operation) maps
+    → (other : List ℕ) → other ≢ key
+    → (mounted_view constants maps other ≡ view constants state other) ⊎ (mounted_view constants maps other ≡ completed_view constants (maps_of state) other)

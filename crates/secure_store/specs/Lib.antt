@@ -1,6 +1,13 @@
+pub mod Absorbing
+pub mod Facts
 pub mod Heal
 pub mod Laws
 pub mod Limits
+pub mod Pair
+pub mod Reading
+pub mod SecureState
 pub mod SecureStep
 pub mod Sealing
+pub mod Store
 pub mod View
+pub mod Viewing

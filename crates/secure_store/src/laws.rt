@@ -15,7 +15,7 @@ ghost use Rattle.kv_model.specs.StoreState.{Maps, OpenSet, StoreState, fresh_sta
 ghost use Rattle.secure_record.specs.Sealed.{seal, sealed_vector, stored, tag};
 ghost use Rattle.secure_store.specs.declared.limits.TheConstants.{MAX_SECURE_VALUE, SEAL_SIZE};
 ghost use Rattle.secure_store.specs.Heal.{heal, IsHealed};
-ghost use Rattle.secure_store.specs.Laws.{HealsKey, LeavesOthers, MaySeal, ShowsOldOrSet, ShowsOldSetOrFailed, ShowsSet};
+ghost use Rattle.secure_store.specs.Laws.{HealsKey, LeavesOthers, MaySeal, ShowsOldOrSet, ShowsOldSetOrFailed, ShowsOthers, ShowsSet};
 ghost use Rattle.secure_store.specs.Sealing.{tag_of};
 ghost use Rattle.secure_store.specs.Limits.{HasRooms, IsSecure};
 ghost use Rattle.secure_store.specs.View.{Absent, Held};
@@ -136,6 +136,18 @@ pub fn a_cut_leaves_other_keys()
         → LeavesOthers constants state who (Remove key) key }
     ensures finish { (constants : Constants) (state : StoreState) (who : ℕ) (set : OpenSet)
         → state.open_set ≡ Some set → LeavesOthers constants state who Finish set.key }
+{}
+
+/// Whatever a cut of a set, a remove or a finish leaves, a mount then shows of every other key the
+/// view that it had, or the one that completing its own set gives it: a cut may change how much
+/// room there is for that.
+pub fn a_cut_shows_other_keys()
+    ensures set { (constants : Constants) (state : StoreState) (who : ℕ) (key value : List ℕ)
+        (flags : ℕ) → ShowsOthers constants state who (Set key value flags) key }
+    ensures remove { (constants : Constants) (state : StoreState) (who : ℕ) (key : List ℕ)
+        → ShowsOthers constants state who (Remove key) key }
+    ensures finish { (constants : Constants) (state : StoreState) (who : ℕ) (set : OpenSet)
+        → state.open_set ≡ Some set → ShowsOthers constants state who Finish set.key }
 {}
 
 /// A secure store begins within the limits of a state, and every call, fault and mount keeps them.

@@ -1,9 +1,19 @@
-//! The rules of a secure store: a store over two others, which seals values and notices an old
-//! value that was put back. The definitions in specs/ say what it may answer, and [`laws`] what
-//! these mean.
+//! A secure store: a store over two others, which seals values and notices an old value that was
+//! put back. The definitions in specs/ say what it may answer, and [`laws`] what these mean.
+//!
+//! The calls that read stand; those that set and remove are to come.
 #![tactic(auto)]
 
+mod arming;
+mod iterating;
 pub mod laws;
 mod limits;
+mod noted;
+mod opening;
+mod reading;
+mod reads;
+mod store;
+mod viewing;
 
 pub use limits::{MAX_SECURE_VALUE, SEAL_SIZE, TAG_SIZE};
+pub use store::SecureStore;
