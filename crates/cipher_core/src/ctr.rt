@@ -32,9 +32,13 @@ impl Model for CtrStream {
     ghost use Rattle.aes_core.specs.Aes.{encrypted};
     ghost use Rattle.cipher_core.specs.Ctr.{counter_block};
 
-    ghost view = { λ s. record { key = s.cipher; start = s.start; place = 16 * s.blocks + s.used } };
+    ghost view = { λ s.
+        record { key = s.cipher; start = s.start; place = 16 * s.blocks + s.used } };
 
-    ghost invariant = { λ s. record { below : s.used < 16; current : 0 < s.used → s.pad ≡ encrypted s.cipher (counter_block s.start s.blocks) } };
+    ghost invariant = { λ s. record {
+      below : s.used < 16;
+      current : 0 < s.used → s.pad ≡ encrypted s.cipher (counter_block s.start s.blocks);
+    } };
 }
 
 // The block of the key stream with this number.

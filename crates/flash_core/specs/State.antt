@@ -44,10 +44,6 @@ pub record FlashState : Type 1 where
   -- no call fails
   pub sound : Bool
 
--- P of the image, where it is told
-abbrev pub IfTold : Option (List ℕ) → (List ℕ → Type 0) → Type 0
-IfTold told P = ForSome told P
-
 -- P of the image, where it is told and the result is Ok
 abbrev pub OnImage : {T E : Type 0} → Option (List ℕ) → Result T E → (List ℕ → Type 0) → Type 0
 OnImage told result P = ForSome told (λ image. OnOk result (P image))

@@ -1,7 +1,7 @@
 -- Why reading stopped, in the words of the causes.
 use Rattle.std.proofs.Common.{◌≡◌, ℕ, ◌<◌, ◌≤◌, inl, inr, List, length, refl, sym, subst, arith}
-use Rattle.std.specs.Prelude.{Option, Some, None, IsSomeAnd, Result, Ok, Err, MatchResult, IfErr}
-use Rattle.kv_host.specs.Contents.{HostContents, IfTold, file_at}
+use Rattle.std.specs.Prelude.{Option, Some, None, IsSomeAnd, Result, Ok, Err, MatchResult, IfErr, IfSome}
+use Rattle.kv_host.specs.Contents.{HostContents, file_at}
 use Rattle.kv_host.specs.Refusal.{ReadRefusal}
 use Rattle.kv_host.specs.declared.interface.HostFault.{HostFault}
 use Rattle.kv_host.specs.declared.interface.HostFault.TheVariants as fault
@@ -51,7 +51,7 @@ script_stops told name before after stop (why, refused, is) = subst (StopsAtScri
 pub image_stops : (told : Option HostContents) (name : List ℕ) (before after : ℕ) (stop : Stop) → StopsAtFile file.Primary name told before after stop → StopsAtImage name told before after stop
 image_stops told name before after stop (why, refused, is) = subst (StopsAtImage name told before after) (sym is) (image_fault told name before after why refused)
 
-text_stops : (told : Option HostContents) (name text : List ℕ) (before after : ℕ) (stop : Stop) → StopsAtText text stop → IfTold told (λ contents. IsReadable script_limit name contents text)
+text_stops : (told : Option HostContents) (name text : List ℕ) (before after : ℕ) (stop : Stop) → StopsAtText text stop → IfSome told (λ contents. IsReadable script_limit name contents text)
     → StopsAtScript name told before after stop
 text_stops None name text before after (stop.Refused (refusal.BadLine line)) why readable = tt
 text_stops (Some contents) name text before after (stop.Refused (refusal.BadLine line)) why readable =
@@ -64,6 +64,6 @@ text_stops told name text before after stop.Fault why readable = absurd why
 text_stops told name text before after stop.Memory why readable = tt
 
 pub parse_stops : {T : Type 0} (P : T → Type 0) (told : Option HostContents) (name text : List ℕ) (before after : ℕ) (result : Result T Stop) → MatchResult result P (StopsAtText text)
-    → IfTold told (λ contents. IsReadable script_limit name contents text) → IfErr result (StopsAtScript name told before after)
+    → IfSome told (λ contents. IsReadable script_limit name contents text) → IfErr result (StopsAtScript name told before after)
 parse_stops P told name text before after (Ok script) h readable = tt
 parse_stops P told name text before after (Err stop) h readable = text_stops told name text before after stop h readable

@@ -1,8 +1,8 @@
 -- How a replay can end, and that of its ends one alone fits the words and the files.
 use Rattle.std.proofs.Common.{◌≡◌, ◌≢◌, ℕ, ◌⊎◌, inl, inr, List, [], ◌∷◌, ◌++◌, length, refl, sym, subst, ap, ◌∙◌, arith}
-use Rattle.std.specs.Prelude.{Option, Some, None, All}
+use Rattle.std.specs.Prelude.{Option, Some, None, All, IfSome}
 use Rattle.std.proofs.lemmas.List.Elements.{All-head, All-tail}
-use Rattle.kv_host.specs.Contents.{HostContents, IfTold, file_at, with_file, with_printed}
+use Rattle.kv_host.specs.Contents.{HostContents, file_at, with_file, with_printed}
 use Rattle.journal_core.specs.Texts.{text_of}
 use Rattle.kv_model.specs.declared.call.Entry.{Entry}
 use Rattle.script_core.specs.declared.line.Line.{Line}
@@ -196,7 +196,7 @@ no_fault (refusal.Absent file) is = omega (arith, is)
 no_fault (refusal.TooLong file) is = omega (arith, is)
 
 pub done : (words : List (List ℕ)) (told told' : Option HostContents) (before after status : ℕ) (entries : List Entry) (written : List ℕ) → HasEnded words told told' before after status entries written → status ≡ 0
-    → IfTold told (λ contents. (replays : Replays words contents entries written) × (told' ≡ Some (with_printed (text_of entries) (with_file replays.gives.names.primary written contents))))
+    → IfSome told (λ contents. (replays : Replays words contents entries written) × (told' ≡ Some (with_printed (text_of entries) (with_file replays.gives.names.primary written contents))))
 done words None told' before after status entries written ended is = tt
 done words (Some contents) told' before after status entries written ended is = elim (ends words contents told' before after status entries written ended) [
   | inl whole ↦ whole.1
@@ -207,7 +207,7 @@ done words (Some contents) told' before after status entries written ended is = 
 ]
 
 pub cut_short : (words : List (List ℕ)) (told told' : Option HostContents) (before after status : ℕ) (entries : List Entry) (written : List ℕ) → HasEnded words told told' before after status entries written → status ≡ 4
-    → IfTold told (λ contents. IsCutShort words contents told' entries written)
+    → IfSome told (λ contents. IsCutShort words contents told' entries written)
 cut_short words None told' before after status entries written ended is = tt
 cut_short words (Some contents) told' before after status entries written ended is = elim (ends words contents told' before after status entries written ended) [
   | inl whole ↦ absurd (omega (arith, is, whole.0))
@@ -254,7 +254,7 @@ printed_for words contents told' before after status entries written ended a b d
 ]
 
 pub script : (words : List (List ℕ)) (told told' : Option HostContents) (before after status : ℕ) (entries : List Entry) (written : List ℕ) → HasEnded words told told' before after status entries written → status ≡ 2
-    → IfTold told (λ contents. PrintsLine LacksScript words contents told')
+    → IfSome told (λ contents. PrintsLine LacksScript words contents told')
 script words None told' before after status entries written ended is = tt
 script words (Some contents) told' before after status entries written ended is =
     let p = printed_for words contents told' before after status entries written ended (λ k. omega (arith, is, k)) (λ k. omega (arith, is, k)) (λ k. omega (arith, is, k)) (λ k. omega (arith, is, k)) in elim (p.cause) [
@@ -264,7 +264,7 @@ script words (Some contents) told' before after status entries written ended is 
     ]
 
 pub image : (words : List (List ℕ)) (told told' : Option HostContents) (before after status : ℕ) (entries : List Entry) (written : List ℕ) → HasEnded words told told' before after status entries written → status ≡ 3
-    → IfTold told (λ contents. PrintsLine LacksImage words contents told')
+    → IfSome told (λ contents. PrintsLine LacksImage words contents told')
 image words None told' before after status entries written ended is = tt
 image words (Some contents) told' before after status entries written ended is =
     let p = printed_for words contents told' before after status entries written ended (λ k. omega (arith, is, k)) (λ k. omega (arith, is, k)) (λ k. omega (arith, is, k)) (λ k. omega (arith, is, k)) in elim (p.cause) [
@@ -274,7 +274,7 @@ image words (Some contents) told' before after status entries written ended is =
     ]
 
 pub file : (words : List (List ℕ)) (told told' : Option HostContents) (before after status : ℕ) (entries : List Entry) (written : List ℕ) → HasEnded words told told' before after status entries written → status ≡ 6
-    → IfTold told (λ contents. PrintsLine LacksFile words contents told')
+    → IfSome told (λ contents. PrintsLine LacksFile words contents told')
 file words None told' before after status entries written ended is = tt
 file words (Some contents) told' before after status entries written ended is =
     let p = printed_for words contents told' before after status entries written ended (λ k. omega (arith, is, k)) (λ k. omega (arith, is, k)) (λ k. omega (arith, is, k)) (λ k. omega (arith, is, k)) in elim (p.cause) [
@@ -315,7 +315,7 @@ cause words contents told' before after status entries written names named ended
 ]
 
 pub only_script : (words : List (List ℕ)) (told told' : Option HostContents) (before after status : ℕ) (entries : List Entry) (written : List ℕ) → HasEnded words told told' before after status entries written
-    → IfTold told (λ contents. (line : List ℕ) → Gives LacksScript words contents line → IsUnlessHindered 2 status)
+    → IfSome told (λ contents. (line : List ℕ) → Gives LacksScript words contents line → IsUnlessHindered 2 status)
 only_script words None told' before after status entries written ended = tt
 only_script words (Some contents) told' before after status entries written ended = λ line gives a b.
     let names = gives.names in let bad = gives.cause.1 in
@@ -327,7 +327,7 @@ only_script words (Some contents) told' before after status entries written ende
     ]
 
 pub only_image : (words : List (List ℕ)) (told told' : Option HostContents) (before after status : ℕ) (entries : List Entry) (written : List ℕ) → HasEnded words told told' before after status entries written
-    → IfTold told (λ contents. (line : List ℕ) → Gives LacksImage words contents line → IsUnlessHindered 3 status)
+    → IfSome told (λ contents. (line : List ℕ) → Gives LacksImage words contents line → IsUnlessHindered 3 status)
 only_image words None told' before after status entries written ended = tt
 only_image words (Some contents) told' before after status entries written ended = λ line gives a b.
     let names = gives.names in let read = of_wrong names contents line gives.cause in
@@ -339,7 +339,7 @@ only_image words (Some contents) told' before after status entries written ended
     ]
 
 pub only_file : (words : List (List ℕ)) (told told' : Option HostContents) (before after status : ℕ) (entries : List Entry) (written : List ℕ) → HasEnded words told told' before after status entries written
-    → IfTold told (λ contents. (line : List ℕ) → Gives LacksFile words contents line → IsUnlessHindered 6 status)
+    → IfSome told (λ contents. (line : List ℕ) → Gives LacksFile words contents line → IsUnlessHindered 6 status)
 only_file words None told' before after status entries written ended = tt
 only_file words (Some contents) told' before after status entries written ended = λ line gives a b.
     let names = gives.names in let lacks = unread names contents line gives.cause in
@@ -351,7 +351,7 @@ only_file words (Some contents) told' before after status entries written ended 
     ]
 
 pub only_done : (words : List (List ℕ)) (told told' : Option HostContents) (before after status : ℕ) (entries : List Entry) (written : List ℕ) → HasEnded words told told' before after status entries written
-    → IfTold told (λ contents. (lines : List Line) → GivesReplay words contents lines → IsUnlessHindered 0 status)
+    → IfSome told (λ contents. (lines : List Line) → GivesReplay words contents lines → IsUnlessHindered 0 status)
 only_done words None told' before after status entries written ended = tt
 only_done words (Some contents) told' before after status entries written ended = λ lines gives a b.
     let names = gives.names in let whole = whole_of words contents names lines gives.named gives in

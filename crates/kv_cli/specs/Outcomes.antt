@@ -1,7 +1,7 @@
 -- What the program answers, status by status.
-use Rattle.std.specs.Prelude.{◌≡◌, ◌≢◌, ◌≤◌, ◌⊎◌, ℕ, List, [], length, take, Option, Some, None, All}
+use Rattle.std.specs.Prelude.{◌≡◌, ◌≢◌, ◌≤◌, ◌⊎◌, ℕ, List, [], length, take, Option, Some, None, All, IfSome}
 use Rattle.std.specs.Option.{option_map}
-use Rattle.kv_host.specs.Contents.{HostContents, IfTold, with_file, with_printed}
+use Rattle.kv_host.specs.Contents.{HostContents, with_file, with_printed}
 use Rattle.base_core.specs.Counts.{Rose}
 use Rattle.kv_host.specs.Refusal.{ReadRefusal}
 use Rattle.kv_host.specs.declared.interface.HostFault.{HostFault}
@@ -70,7 +70,7 @@ IsShort word = length word ≤ 64
 -- the lines of a script that was read, and there is an image
 pub record AreRead (names : Names) (told : Option HostContents) (lines : List Line) : Type 0 where
   pub early : All IsEarly lines
-  pub given : IfTold told (λ contents. HasScript names.script contents lines × HasImage names.primary contents)
+  pub given : IfSome told (λ contents. HasScript names.script contents lines × HasImage names.primary contents)
 
 -- the entries and the image are a replay of lines that were read
 pub record IsReplayed (names : Names) (told : Option HostContents) (entries : List Entry) (image : List ℕ) : Type 0 where
@@ -110,16 +110,16 @@ IsWrongImage image _ = ⊥
 -- why reading the script of this name stopped
 abbrev pub StopsAtScript : List ℕ → Option HostContents → ℕ → ℕ → Stop → Type 0
 StopsAtScript name told before after stop =
-    Stops (λ refusal. IfTold told (λ contents. (names : Names) → names.script ≡ name → IsCause names contents refusal)) before after stop
+    Stops (λ refusal. IfSome told (λ contents. (names : Names) → names.script ≡ name → IsCause names contents refusal)) before after stop
 
 -- why reading the image of this name stopped
 abbrev pub StopsAtImage : List ℕ → Option HostContents → ℕ → ℕ → Stop → Type 0
 StopsAtImage name told before after stop =
-    Stops (λ refusal. IfTold told (λ contents. (names : Names) → names.primary ≡ name → HasSomeScript names contents → IsCause names contents refusal)) before after stop
+    Stops (λ refusal. IfSome told (λ contents. (names : Names) → names.primary ≡ name → HasSomeScript names contents → IsCause names contents refusal)) before after stop
 
 -- why a replay stopped
 abbrev pub StopsFor : Names → Option HostContents → ℕ → ℕ → Stop → Type 0
-StopsFor names told before after stop = Stops (λ refusal. IfTold told (λ contents. IsCause names contents refusal)) before after stop
+StopsFor names told before after stop = Stops (λ refusal. IfSome told (λ contents. IsCause names contents refusal)) before after stop
 
 -- the bytes were printed, and the status is the one for that; or printing them failed, and it is 4
 abbrev pub IsPrinted : List ℕ → ℕ → Option HostContents → Option HostContents → ℕ → ℕ → ℕ → Type 0

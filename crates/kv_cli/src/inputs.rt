@@ -1,6 +1,5 @@
 // What a replay reads before it begins.
-ghost use Rattle.std.specs.Prelude.{◌≡◌, ◌≢◌, ◌≤◌, ◌<◌, ◌+◌, ◌^◌, ◌↔◌, ℕ, List, length, All, IsTrue, Err, IfOk, IfErr, MatchResult};
-ghost use Rattle.kv_host.specs.Contents.{IfTold};
+ghost use Rattle.std.specs.Prelude.{◌≡◌, ◌≢◌, ◌≤◌, ◌<◌, ◌+◌, ◌^◌, ◌↔◌, ℕ, List, length, All, IsTrue, Err, IfOk, IfErr, MatchResult, IfSome};
 ghost use Rattle.flash_core.specs.Images.{IsErased};
 ghost use Rattle.script_core.specs.declared.line.Line.{Line};
 ghost use Rattle.kv_cli.specs.Images.{image_size, IsErasedImage};
@@ -43,7 +42,7 @@ fn read<H: Host>(alloc: Global, host: &mut H, file: File, name: &str) -> Result<
     ensures count { H.faults host.old ≤ H.faults host.new }
     ensures stands { H.contents host.new ≡ H.contents host.old }
     ensures within { IfOk result (λ bytes. length bytes.items ≤ limit_of file) }
-    ensures read { IfOk result (λ bytes. IfTold (H.contents host.old) (λ c. IsReadable (limit_of file) name.now c bytes.items)) }
+    ensures read { IfOk result (λ bytes. IfSome (H.contents host.old) (λ c. IsReadable (limit_of file) name.now c bytes.items)) }
     ensures stops { IfErr result (StopsAtFile file name.now (H.contents host.old) (H.faults host.old) (H.faults host.new)) }
     ensures calm { (names room : ℕ) → H.is_calm host.old names room → (result ≢ Err Stop.Fault) × H.is_calm host.new names room }
 {
@@ -58,7 +57,7 @@ fn read_script<H: Host>(alloc: Global, host: &mut H, name: &str) -> Result<Scrip
     ensures count { H.faults host.old ≤ H.faults host.new }
     ensures stands { H.contents host.new ≡ H.contents host.old }
     ensures early { IfOk result (λ lines. All IsEarly lines) }
-    ensures read { IfOk result (λ lines. IfTold (H.contents host.old) (λ c. HasScript name.now c lines)) }
+    ensures read { IfOk result (λ lines. IfSome (H.contents host.old) (λ c. HasScript name.now c lines)) }
     ensures stops { IfErr result (StopsAtScript name.now (H.contents host.old) (H.faults host.old) (H.faults host.new)) }
     ensures calm { (names room : ℕ) → H.is_calm host.old names room → (result ≢ Err Stop.Fault) × H.is_calm host.new names room }
 {
@@ -90,7 +89,7 @@ fn read_image<H: Host>(alloc: Global, host: &mut H, name: &str) -> Result<Vec<u8
     ensures count { H.faults host.old ≤ H.faults host.new }
     ensures stands { H.contents host.new ≡ H.contents host.old }
     ensures erased { IfOk result (λ image. IsErasedImage image.items) }
-    ensures read { IfOk result (λ _. IfTold (H.contents host.old) (HasImage name.now)) }
+    ensures read { IfOk result (λ _. IfSome (H.contents host.old) (HasImage name.now)) }
     ensures stops { IfErr result (StopsAtImage name.now (H.contents host.old) (H.faults host.old) (H.faults host.new)) }
     ensures calm { (names room : ℕ) → H.is_calm host.old names room → (result ≢ Err Stop.Fault) × H.is_calm host.new names room }
 {

@@ -1,8 +1,8 @@
 // The top call: from words and a host to what was written, what was printed and a status.
-ghost use Rattle.std.specs.Prelude.{◌≡◌, ◌≢◌, ◌≤◌, ◌+◌, ◌⊎◌, ℕ, List, [], length, map, All, Err, Some, None, IfOk, IfErr};
+ghost use Rattle.std.specs.Prelude.{◌≡◌, ◌≢◌, ◌≤◌, ◌+◌, ◌⊎◌, ℕ, List, [], length, map, All, Err, Some, None, IfOk, IfErr, IfSome};
 ghost use Rattle.std.specs.Option.{option_map};
 ghost use Rattle.std.specs.Rc.{rc_str_bytes};
-ghost use Rattle.kv_host.specs.Contents.{IfTold, with_file, with_printed};
+ghost use Rattle.kv_host.specs.Contents.{with_file, with_printed};
 ghost use Rattle.base_core.specs.Counts.{Rose};
 ghost use Rattle.journal_core.specs.Texts.{text_of};
 ghost use Rattle.script_core.specs.declared.line.Line.{Line};
@@ -199,31 +199,31 @@ pub fn tool<H: Host>(alloc: Global, words: &[RcStr], host: &mut H) -> Report
     ensures statuses { (result.status ≤ 4) ⊎ (result.status ≡ 6) ⊎ (result.status ≡ 9) }
     ensures rollback { result.rollback ≡ [] }
     ensures replay { result.status ≡ 0 → (lines : List Line) × All IsEarly lines × IsReplayOf lines result.journal.entries result.primary }
-    ensures done { result.status ≡ 0 → IfTold (H.contents host.old) (λ c.
+    ensures done { result.status ≡ 0 → IfSome (H.contents host.old) (λ c.
         (replays : Replays (map rc_str_bytes words.now) c result.journal.entries result.primary)
         × (H.contents host.new ≡ Some (with_printed (text_of result.journal.entries) (with_file replays.gives.names.primary result.primary c)))) }
     ensures words { result.status ≡ 1 → names_of (map rc_str_bytes words.now) ≡ None }
     ensures words_printed { result.status ≡ 1 → H.contents host.new ≡ option_map (with_printed words_line) (H.contents host.old) }
-    ensures script { result.status ≡ 2 → IfTold (H.contents host.old) (λ c.
+    ensures script { result.status ≡ 2 → IfSome (H.contents host.old) (λ c.
         PrintsLine LacksScript (map rc_str_bytes words.now) c (H.contents host.new)) }
-    ensures image { result.status ≡ 3 → IfTold (H.contents host.old) (λ c.
+    ensures image { result.status ≡ 3 → IfSome (H.contents host.old) (λ c.
         PrintsLine LacksImage (map rc_str_bytes words.now) c (H.contents host.new)) }
-    ensures file { result.status ≡ 6 → IfTold (H.contents host.old) (λ c.
+    ensures file { result.status ≡ 6 → IfSome (H.contents host.old) (λ c.
         PrintsLine LacksFile (map rc_str_bytes words.now) c (H.contents host.new)) }
     ensures fault { result.status ≡ 4 → Rose (H.faults host.old) (H.faults host.new) }
-    ensures cut_short { result.status ≡ 4 → IfTold (H.contents host.old) (λ c.
+    ensures cut_short { result.status ≡ 4 → IfSome (H.contents host.old) (λ c.
         IsCutShort (map rc_str_bytes words.now) c (H.contents host.new) result.journal.entries result.primary) }
     ensures memory { result.status ≡ 9 → H.contents host.new ≡ H.contents host.old }
     ensures nothing { result.status ≢ 0 → result.status ≢ 4 → IsNothing result.journal.entries result.primary }
     ensures only_words { names_of (map rc_str_bytes words.now) ≡ None →
         (result.status ≡ 1) ⊎ (result.status ≡ 4) }
-    ensures only_script { IfTold (H.contents host.old) (λ c.
+    ensures only_script { IfSome (H.contents host.old) (λ c.
         (line : List ℕ) → Gives LacksScript (map rc_str_bytes words.now) c line → IsUnlessHindered 2 result.status) }
-    ensures only_image { IfTold (H.contents host.old) (λ c.
+    ensures only_image { IfSome (H.contents host.old) (λ c.
         (line : List ℕ) → Gives LacksImage (map rc_str_bytes words.now) c line → IsUnlessHindered 3 result.status) }
-    ensures only_file { IfTold (H.contents host.old) (λ c.
+    ensures only_file { IfSome (H.contents host.old) (λ c.
         (line : List ℕ) → Gives LacksFile (map rc_str_bytes words.now) c line → IsUnlessHindered 6 result.status) }
-    ensures only_done { IfTold (H.contents host.old) (λ c.
+    ensures only_done { IfSome (H.contents host.old) (λ c.
         (lines : List Line) → GivesReplay (map rc_str_bytes words.now) c lines → IsUnlessHindered 0 result.status) }
     ensures calm { (files room : ℕ) → H.is_calm host.old files room → 1 ≤ files → All IsShort (map rc_str_bytes words.now)
         → image_size + length (text_of result.journal.entries) ≤ room → result.status ≢ 4 }

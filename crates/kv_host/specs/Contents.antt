@@ -29,11 +29,6 @@ with_printed bytes c = record { files = c.files; printed = c.printed ++ bytes }
 abbrev pub counted_up : ℕ → ℕ
 counted_up n = if nat_lt n (2 ^ 64 - 1) then n + 1 else n
 
--- of a host that tells its contents, P holds of them
-abbrev pub IfTold : Option HostContents → (HostContents → Type 0) → Type 0
-IfTold None P = Unit {0}
-IfTold (Some c) P = P c
-
 -- the contents, stored as the pair of its fields
 abbrev pub contents_code : Coded HostContents
 contents_code = code_by (Files × List ℕ) (coded× (code (coded_list coded_ℕ) (coded_list coded_ℕ)) (coded_list coded_ℕ)) (λ c. (c.files, c.printed)) (λ p. record { files = p.0; printed = p.1 }) (λ _. refl)

@@ -1,7 +1,7 @@
 //! What the engine asks of the outside: files read and written whole, and bytes printed.
-ghost use Rattle.std.specs.Prelude.{◌≡◌, ◌≢◌, ◌+◌, length, Err, IsOk, ℕ, ◌≤◌, [], take, Option, Some, vec_len, IfErr, OnOk, OnErr};
+ghost use Rattle.std.specs.Prelude.{◌≡◌, ◌≢◌, ◌+◌, length, Err, IsOk, ℕ, ◌≤◌, [], take, Option, Some, vec_len, IfErr, OnOk, OnErr, IfSome};
 ghost use Rattle.std.specs.Option.{option_map};
-ghost use Rattle.kv_host.specs.Contents.{HostContents, file_at, with_file, with_printed, IfTold};
+ghost use Rattle.kv_host.specs.Contents.{HostContents, file_at, with_file, with_printed};
 ghost use Rattle.base_core.specs.Counts.{Rose};
 ghost use Rattle.kv_host.specs.Refusal.{ReadRefusal, fault_number};
 
@@ -47,17 +47,18 @@ pub trait Host {
     /// more bytes, stored and printed together, are taken.
     ghost is_calm: { Self → ℕ → ℕ → Type 0 };
 
-    /// Replaces `out` by the bytes of a file of at most `limit` bytes. After a refusal `out` is empty.
+    /// Replaces `out` by the bytes of a file of at most `limit` bytes. After a refusal `out` is
+    /// empty.
     ///
     /// # Errors
     /// `Fault` where the count of faults rose; `TooLong` where the file is longer than `limit`;
-    /// `Absent` where there is no such file; `Memory` where memory ran out. A host that does not tell
-    /// raises its count with `TooLong` and `Absent` too.
+    /// `Absent` where there is no such file; `Memory` where memory ran out. A host that does not
+    /// tell raises its count with `TooLong` and `Absent` too.
     fn read_file(&mut self, name: &str, limit: u32, out: &mut Vec<u8>) -> Result<(), HostFault>
         ensures count { faults self.old ≤ faults self.new }
         ensures stands { contents self.new ≡ contents self.old }
         ensures within { OnOk result (vec_len out.new ≤ limit) }
-        ensures read { OnOk result (IfTold (contents self.old)
+        ensures read { OnOk result (IfSome (contents self.old)
             (λ c. file_at name.now c ≡ Some out.new.items)) }
         ensures empty { OnErr result (out.new.items ≡ []) }
         ensures calm { (names bytes : ℕ) → is_calm self.old names bytes

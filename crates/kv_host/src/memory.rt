@@ -1,8 +1,8 @@
 //! A host in memory, which tells its contents and can be made to fail.
-ghost use Rattle.std.specs.Prelude.{◌≡◌, ◌≢◌, ℕ, ◌≤◌, ◌<◌, ◌↔◌, [], take, Option, Some, Err, true, false, if◌then◌else◌, IsOk, IsErr, IsTrue, IfOk, IfErr, OnOk, OnErr, ◌+◌, length, vec_len, vec_capacity};
+ghost use Rattle.std.specs.Prelude.{◌≡◌, ◌≢◌, ℕ, ◌≤◌, ◌<◌, ◌↔◌, [], take, Option, Some, Err, true, false, if◌then◌else◌, IsOk, IsErr, IsTrue, IfOk, IfErr, OnOk, OnErr, ◌+◌, length, vec_len, vec_capacity, IfSome};
 ghost use Rattle.std.specs.Option.{option_copied, option_map};
 ghost use Rattle.std.specs.FinMap as map;
-ghost use Rattle.kv_host.specs.Contents.{HostContents, file_at, with_file, with_printed, IfTold};
+ghost use Rattle.kv_host.specs.Contents.{HostContents, file_at, with_file, with_printed};
 ghost use Rattle.base_core.specs.Counts.{Rose};
 ghost use Rattle.kv_host.specs.Refusal.{IsLengthRefusal, ReadRefusal};
 ghost use Rattle.kv_host.specs.Table.{IsReserved};
@@ -45,9 +45,9 @@ impl Model for MemHost {
 }
 
 impl MemHost {
-    /// A host with no files and nothing printed, which fails at the calls of these numbers. It takes
-    /// all its memory here: `room` bytes for whatever is stored and printed, and a table of 8 names of
-    /// at most 64 bytes.
+    /// A host with no files and nothing printed, which fails at the calls of these numbers. It
+    /// takes all its memory here: `room` bytes for whatever is stored and printed, and a table of
+    /// 8 names of at most 64 bytes.
     ///
     /// # Errors
     /// `Memory` alone, where memory ran out.

@@ -50,8 +50,8 @@ pub(crate) fn done<T>(answer: io::Result<T>) -> Result<T, HostFault>
     }
 }
 
-/// Reads all that a source has left into `out`, which is empty, where that is at most `limit` bytes.
-/// Of more it reads one byte past the limit.
+/// Reads all that a source has left into `out`, which is empty, where that is at most `limit`
+/// bytes. Of more it reads one byte past the limit.
 ///
 /// # Errors
 /// `TooLong` where the source has more; `Memory` where memory ran out; `Fault` where a read failed.
@@ -89,8 +89,8 @@ pub(crate) fn write_whole<W: Write>(sink: &mut W, bytes: &[u8]) -> Result<(), Ho
     done(sink.write_all(bytes))
 }
 
-/// Writes all the bytes behind those that a sink holds, in one call. A file takes fewer only where it may grow no
-/// further. Then there is no second call, at which the system would end the program.
+/// Writes all the bytes behind those that a sink holds, in one call. A file takes fewer only where
+/// it may grow no further. Then there is no second call, at which the system would end the program.
 ///
 /// # Errors
 /// `Fault` alone, where the write failed or took fewer.

@@ -25,13 +25,6 @@ impl Model for Iter {
     ghost view = { λ i. record { prefix = i.prefix; last = i.last_key } };
 }
 
-// Bytes of a key again, without memory.
-fn copy_of(key: &Key) -> Key
-    ensures { result ≡ key.now }
-{
-    Key::new(key.as_slice()).unwrap()
-}
-
 impl Iter {
     pub(crate) fn new(alloc: Global, prefix: &[u8]) -> Result<Iter, NoMemory>
         ensures { IfOk result (λ iter. iter ≡ at_the_start prefix.now) }
@@ -48,7 +41,7 @@ impl Iter {
     {
         Iter {
             prefix: self.prefix,
-            last_key: Some(copy_of(key)),
+            last_key: Some(key.copied()),
         }
     }
 

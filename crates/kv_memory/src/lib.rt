@@ -22,7 +22,7 @@ pub use iterators::{Iterators, Slot};
 pub use memory::MemoryStore;
 pub use pair::{PairRefusal, set_in_both};
 pub use silent::SilentStore;
-pub use walk::{bytes_used, hash_of, is_below, least_of, record_bytes};
+pub use walk::{bytes_used, is_below, least_of, record_bytes};
 
 #[cfg(test)]
 mod store_tests;

@@ -51,13 +51,6 @@ fn write_key(key: &Key, out: &mut [u8; 128]) -> u8
     bytes.len() as u8
 }
 
-// Bytes of a key again, without memory.
-fn copy_of(key: &Key) -> Key
-    ensures { result ≡ key.now }
-{
-    Key::new(key.as_slice()).unwrap()
-}
-
 impl Kv for MemoryStore {
     ghost rules_by = { plain_rules };
 
@@ -176,7 +169,7 @@ impl Kv for MemoryStore {
         match self.entries.next_key(self.hash_bits, cursor) {
             None => Ok(None),
             Some(found) => {
-                let key = copy_of(found);
+                let key = found.copied();
                 let length = write_key(&key, out);
                 self.iterators.advance(who, n, key);
                 Ok(Some(length))

@@ -3,7 +3,6 @@
 ghost use Rattle.std.specs.Prelude.{◌≡◌, ◌≤◌, ◌<◌, ◌+◌, ◌^◌, Some, map, filter};
 ghost use Rattle.std.specs.Option.{option_copied};
 ghost use Rattle.base_core.specs.Sizes.{record_size};
-ghost use Rattle.kv_model.specs.Crc.{key_hash};
 ghost use Rattle.kv_model.specs.KeyOrder.{is_below};
 ghost use Rattle.kv_model.specs.NextKey.{least_key, lesser_key, may_give};
 ghost use Rattle.kv_model.specs.Sizes.{used_by};
@@ -12,7 +11,7 @@ ghost use Rattle.kv_memory.specs.Cursors.{position_of};
 
 use crate::{Cursor, Item};
 use kv_model::Key;
-use record_core::{crc, padded_size};
+use record_core::{hash_of, padded_size};
 use std::cmp::Ordering;
 
 /// What the record of a key and a value takes, in bytes.
@@ -41,21 +40,12 @@ pub fn bytes_used(prog: u32, items: &[Item]) -> u32
     used
 }
 
-/// The hash of a key: the low bits of its CRC.
-pub fn hash_of(hash_bits: u8, key: &Key) -> u32
-    requires { hash_bits ≤ 32 }
-    ensures { result ≡ key_hash hash_bits key.now }
-{
-    let sum = u64::from(crc(0xFFFF_FFFF, key.as_slice()));
-    (sum % (1 << hash_bits)) as u32
-}
-
 /// Whether a key stands below another in the order of iterators.
 pub fn is_below(hash_bits: u8, key: &Key, other: &Key) -> bool
     requires { hash_bits ≤ 32 }
     ensures { result ≡ is_below hash_bits key.now other.now }
 {
-    match hash_of(hash_bits, key).cmp(&hash_of(hash_bits, other)) {
+    match hash_of(key, hash_bits).cmp(&hash_of(other, hash_bits)) {
         Ordering::Less => true,
         Ordering::Equal => key.cmp(other) == Ordering::Less,
         Ordering::Greater => false,

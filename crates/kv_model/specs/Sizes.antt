@@ -1,8 +1,7 @@
 -- How much of an area the records of a map take. prog is the device's program unit in bytes.
 use Rattle.std.specs.Prelude.{ℕ, ◌+◌, ◌-◌, List, [], ◌∷◌, length}
 use Rattle.std.specs.FinMap.{entries}
-unfoldable pub use Rattle.base_core.specs.Units.{up}
-pub use Rattle.base_core.specs.Sizes.{record_size, master_size}
+use Rattle.base_core.specs.Sizes.{record_size, master_size}
 use Rattle.kv_model.specs.FlaggedMap.{Stored, FlaggedMap}
 
 -- what an area has for records

@@ -93,6 +93,16 @@ impl Key {
     {
         &self.buffer[..self.length as usize]
     }
+
+    /// The same key once more. It takes no memory.
+    pub fn copied(&self) -> Key
+        ensures { result ≡ self.now }
+    {
+        Key {
+            buffer: self.buffer,
+            length: self.length,
+        }
+    }
 }
 
 // Keys compare by their bytes, a prefix before what it begins.

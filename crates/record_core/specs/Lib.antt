@@ -2,10 +2,12 @@ pub mod Chance
 pub mod CutMoments
 pub mod Cuts
 pub mod Endings
+pub mod Finishing
 pub mod Header
 pub mod Log
 pub mod Lookup
 pub mod Mounts
 pub mod Reading
 pub mod Record
+pub mod Renewal
 pub mod Written

@@ -3,6 +3,7 @@ pub mod Cuts
 pub mod DecimalDigits
 pub mod HexWords
 pub mod LaterEnds
+pub mod LineOrderLemmas
 pub mod Lines
 pub mod Modes
 pub mod Options

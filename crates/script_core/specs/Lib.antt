@@ -1,5 +1,6 @@
 pub mod HexDigits
 pub mod Grammar
+pub mod LineOrder
 pub mod Parts
 pub mod Reading
 pub mod Spelled

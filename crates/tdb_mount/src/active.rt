@@ -1,14 +1,6 @@
 //! Which of two areas is active.
-ghost use Rattle.std.specs.Prelude.{◌≡◌, ◌≤◌, length, IfOk, IfSome, Some};
-ghost use Rattle.flash_core.specs.Sizes.{IsValid, area_size};
-ghost use Rattle.flash_core.specs.State.{IfTold};
-ghost use Rattle.record_core.specs.Mounts.{MasterAt};
-ghost use Rattle.record_core.specs.Reading.{HasRead};
+ghost use Rattle.std.specs.Prelude.{◌≤◌, IfSome, Some};
 ghost use Rattle.tdb_mount.specs.Choice.{IsChoice};
-
-use flash_core::Flash;
-use kv_model::KvError;
-use record_core::read_master;
 
 /// The active area, 0 or 1, and its version.
 #[derive(Clone, Copy, Debug, PartialEq, Eq)]

@@ -2,7 +2,7 @@ use Rattle.std.proofs.Common.{◌≡◌, ℕ, ◌<◌, ◌≤◌, ◌+◌, ◌-�
 use native.Mathlib.Omega.{arith}
 use Rattle.std.specs.Prelude.{slice_index}
 use Rattle.std.proofs.lemmas.List.{get_or-replicate}
-use Rattle.kv_model.specs.Sizes.{record_size}
+use Rattle.base_core.specs.Sizes.{record_size}
 use Rattle.area_log.proofs.tests.appended.Goals as goal
 
 bytes_of_erased : (image x : List ℕ) (i : ℕ) → Some image ≡ Some (replicate 512 255) → Some image ≡ Some x → i < 512 → slice_index x i ≡ 255
