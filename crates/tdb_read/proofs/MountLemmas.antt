@@ -23,11 +23,12 @@ use Rattle.area_log.specs.Areas.{end_of, first_place}
 use Rattle.area_log.specs.Listing.{listed}
 use Rattle.ram_table.specs.Table.{TableState}
 use Rattle.tdb_mount.specs.declared.mount.Parts.{Parts}
-use Rattle.tdb_mount.specs.Format.{Leaves, LeavesBy, MountsBy}
+use Rattle.tdb_mount.specs.Format.{MountsAlike, MountsBy}
+use Rattle.record_core.specs.CutMoments.{Cuts}
+use Rattle.flash_core.proofs.KeptLaws.{told_before}
 use Rattle.tdb_mount.specs.Index.{IsTable, places_of}
-use Rattle.tdb_mount.specs.Mounted.{IsMountOf, IsSafe as AreSafe}
+use Rattle.tdb_mount.specs.Mounted.{IsMountOf, IsSafe as AreSafe, MountsAs}
 use Rattle.tdb_mount.specs.Room.{area_of}
-use Rattle.tdb_mount.proofs.LawLemmas.{keeps_the_map}
 use Rattle.tdb_read.specs.Mounting.{IsMounted}
 use Rattle.tdb_read.specs.Reads.{map_in}
 use Rattle.tdb_read.specs.Views.{IsLogOf, IsReady, IsSafe, LogPart, LogView, area_in, records_in}
@@ -67,16 +68,13 @@ pub short_of_memory : {old new : FlashState} {R : List ℕ → Option DeviceCall
 short_of_memory runs = record {
   kept = runs.kept;
   cause = tt;
+  counts = runs.counts;
   steady = λ _. tt;
   adds = runs.adds;
   stands = runs.stands;
   torn_stands = runs.torn_stands;
   failed = λ image told. tt;
 }
-
-leaves_any : {T : Type 0} (E : Type 0) (g : Geometry) (image left : List ℕ) (x : T) (active : Option ℕ) → LeavesBy {T = T} {E = E} g image left (Ok x) active → LeavesBy {T = Unit {0}} {E = Unit {0}} g image left (Ok tt) active
-leaves_any E g image left x None leaves = leaves
-leaves_any E g image left x (Some number) leaves = leaves
 
 abbrev pub log_of : ℕ → Parts → ℕ → List ℕ → LogPart
 log_of hash_bits parts work unit = record {
@@ -116,14 +114,10 @@ module _ (g : Geometry) (valid : IsValid g) (image : List ℕ) (hash_bits : ℕ)
     clean = is.clean;
   }
 
-  mounted_map : Mounts g image (map_in g log image)
-  mounted_map = (is.contents, is.holds, ap map_of records_same)
-
-module _ (old new : FlashState) (lawful : IsLawful old) (runs : RunsBy old new (MountsBy old.geometry) Done) (hash_bits : ℕ) (bits : hash_bits ≤ 32) (parts : Parts)
+module _ (old new : FlashState) (runs : RunsBy old new (MountsBy old.geometry) Done) (hash_bits : ℕ) (bits : hash_bits ≤ 32) (parts : Parts)
     (valid : IsValid old.geometry) (safe : AreSafe old.geometry parts)
-    (mounted : ForSome new.image (λ image. IsMountOf old.geometry hash_bits image parts))
-    (leaves : ForSome old.image (λ image. ForSome new.image (λ left. (first second : Option ℕ) → MasterAt old.geometry.prog image 0 first → MasterAt old.geometry.prog image (area_size old.geometry) second
-    → LeavesBy {T = Unit {0}} {E = Unit {0}} old.geometry image left (Ok tt) (active_area first second))))
+    (mounted : ForSome old.image (λ image. ForSome new.image (λ left. MountsAs old.geometry hash_bits image left parts)))
+    (cuts : RunsBy old new (Cuts old.geometry (MountsAlike old.geometry)) Done)
     (work : ℕ) (unit : List ℕ) (work_is : work ≡ 4096) (unit_is : length unit ≡ new.geometry.prog) where
   abbrev view : LogView
   view = record { device = new; log = log_of hash_bits parts work unit }
@@ -143,21 +137,19 @@ module _ (old new : FlashState) (lawful : IsLawful old) (runs : RunsBy old new (
       work = work_is;
       unit = unit_is ∙ ap (λ (g : Geometry). g.prog) same;
     });
-    stands = λ image told. subst (λ (g : Geometry). IsLogOf g image view.log) (sym same) (mounted_log old.geometry valid image hash_bits parts (mounted image told) work unit);
+    stands = λ image told. let was = told_before runs.kept told in
+        subst (λ (g : Geometry). IsLogOf g image view.log) (sym same) (mounted_log old.geometry valid image hash_bits parts (mounted was.0 was.1 image told).found work unit);
   }
 
   pub is_mounted : IsMounted old hash_bits view
   is_mounted = record {
     ready = ready;
     runs = runs;
+    cuts = cuts;
     bits = refl;
     no_iterators = refl;
-    same_map = λ image told left now m mounts. mounts_once old.geometry left (prog_positive old.geometry valid) (map_in old.geometry view.log left) m
-        (mounted_map old.geometry valid left hash_bits parts (mounted left now) work unit)
-        (keeps_the_map old.geometry valid image (lawful.sized image told) left m (leaves image told left now) mounts);
+    same_map = λ image told left now m mounts.
+        let is = mounted image told left now in
+        ap map_of (records_same old.geometry valid left hash_bits parts is.found work unit) ∙ sym is.stands
+        ∙ mounts_once old.geometry image (prog_positive old.geometry valid) is.map m is.mounts mounts;
   }
-
--- what a mount leaves, whatever it answers with Ok
-pub leaves_ok : {T : Type 0} (E : Type 0) (g : Geometry) (image left : List ℕ) (x : T) → Leaves {T = T} {E = E} g image left (Ok x)
-    → (first second : Option ℕ) → MasterAt g.prog image 0 first → MasterAt g.prog image (area_size g) second → LeavesBy {T = Unit {0}} {E = Unit {0}} g image left (Ok tt) (active_area first second)
-leaves_ok E g image left x leaves first second first_is second_is = leaves_any E g image left x (active_area first second) (leaves first second first_is second_is)

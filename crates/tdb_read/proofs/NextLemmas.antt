@@ -9,7 +9,9 @@ use Rattle.std.proofs.lemmas.Bool.Decides.{Decides-eqb}
 use Rattle.std.proofs.lemmas.Slice.Eq.{starts_is}
 use mathlib.Core.Bool.{false≢true}
 use Rattle.flash_core.specs.declared.geometry.Geometry.{Geometry}
+use Rattle.flash_core.specs.Runs.{IsCounted}
 use Rattle.flash_core.specs.State.{FlashState}
+use Rattle.record_core.specs.Endings.{kv_ending}
 use Rattle.kv_model.specs.declared.error.KvError.{KvError}
 use Rattle.kv_model.specs.KeyOrder.{is_below}
 use Rattle.kv_model.specs.NextKey.{IsAhead, IsNext}
@@ -32,7 +34,7 @@ use Rattle.tdb_read.proofs.TableLemmas.{at_entry, entry_of, told_table}
 
 module _ (old new : FlashState) (area : Area) (offset : ℕ) (inside : offset + 24 ≤ end_of area)
     (has : ForSome old.image (λ image. IsTrue (map.contains_key (keys_in old.geometry area image) offset))) where
-  can : CanReadKey (keys_of old area 0) offset
+  can : CanReadKey (keys_of old area 0 0) offset
   can = record {
     within = omega (arith, inside);
     has = λ keys told. let image = mapped_from (keys_in old.geometry area) old.image keys told in
@@ -42,10 +44,10 @@ module _ (old new : FlashState) (area : Area) (offset : ℕ) (inside : offset + 
   pub key_is_read : (key : List ℕ) → KeySeen old offset (end_of area - offset) key → (image : List ℕ) → old.image ≡ Some image
       → unwrap_or (map.get (keys_in old.geometry area image) offset) [] ≡ key
   key_is_read key seen image told = ap (λ (o : Option (List ℕ)). unwrap_or o [])
-      (key_read old new area 0 offset can key seen (keys_in old.geometry area image) (ap (option_map (keys_in old.geometry area)) told))
+      (key_read old new area 0 0 0 offset can key seen (keys_in old.geometry area image) (ap (option_map (keys_in old.geometry area)) told))
 
-  pub key_refused : (e : KvError) → IsReadFault old new e ⊎ (HeadBroken old offset (end_of area - offset) e ⊎ KeyBroken old offset (end_of area - offset) e) → IsReadRefusal old new e
-  key_refused e cause = from_reader old new area 0 e (refusal_of_read old new area 0 offset can e cause)
+  pub key_refused : (e : KvError) → IsCounted old new (kv_ending e) → IsReadFault old new e ⊎ (HeadBroken old offset (end_of area - offset) e ⊎ KeyBroken old offset (end_of area - offset) e) → IsReadRefusal old new e
+  key_refused e counts cause = from_reader old new area 0 0 0 e (refusal_of_read old new area 0 0 0 offset can e counts cause)
 
 -- ---- the walk
 

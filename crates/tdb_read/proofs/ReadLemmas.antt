@@ -81,10 +81,10 @@ none_mapped : {X Y : Type 0} (f : X → Y) (o : Option X) → option_map f o ≡
 none_mapped f None is = refl
 none_mapped f (Some x) is = absurd (cc)
 
-pub from_reader : (old new : FlashState) (area : Area) (hash_bits : ℕ) (e : KvError) → IsRefusal (keys_of old area hash_bits) (keys_of new area hash_bits) e → IsReadRefusal old new e
-from_reader old new area hash_bits ReadFault is = is
-from_reader old new area hash_bits (Corrupt stored computed) is = (is.0, none_mapped (keys_in old.geometry area) old.image is.1)
-from_reader old new area hash_bits e is = absurd is
+pub from_reader : (old new : FlashState) (area : Area) (hash_bits before now : ℕ) (e : KvError) → IsRefusal (keys_of old area hash_bits before) (keys_of new area hash_bits now) e → IsReadRefusal old new e
+from_reader old new area hash_bits before now ReadFault is = is
+from_reader old new area hash_bits before now (Corrupt stored computed) is = (is.0, none_mapped (keys_in old.geometry area) old.image is.1)
+from_reader old new area hash_bits before now e is = absurd is
 
 pub fault_is : (old new : FlashState) (e : KvError) → IsReadFault old new e → IsReadRefusal old new e
 fault_is old new e fault = subst (IsReadRefusal old new) (sym fault.is) (fault.rose, fault.unsteady)

@@ -14,15 +14,16 @@ use Rattle.area_log.specs.Areas.{end_of, first_place}
 use Rattle.area_log.specs.Listing.{listed}
 use Rattle.area_log.specs.Reading.{HoldsRecord}
 use Rattle.ram_table.specs.declared.table.Place.{Place}
-use Rattle.ram_table.specs.Find.{IsPlaceOf, key_at}
+use Rattle.ram_table.specs.Find.{CanFind, IsIndexOf, IsPlaceOf, key_at}
 use Rattle.ram_table.specs.Reader.{KeyMap}
 use Rattle.ram_table.specs.Table.{entry_at}
 use Rattle.tdb_mount.specs.Index.{HasEntry, IsKept, IsLinked, IsTableOf, PlaceMap, places_of, record_of}
-use Rattle.tdb_mount.specs.Keys.{keys_in}
+use Rattle.tdb_mount.specs.Keys.{keys_in, keys_of}
+use Rattle.tdb_mount.proofs.ReaderLemmas.{mapped_from}
 use Rattle.tdb_mount.proofs.PlaceLemmas.{record_of_place, records_linked, tells_record}
 use Rattle.tdb_mount.proofs.TableLemmas.{table_with}
 use Rattle.tdb_read.specs.Reads.{HasAt, IsLocated, map_in, offset_in}
-use Rattle.tdb_read.specs.Views.{IsLogOf, IsSafe, LogPart, area_in, records_in}
+use Rattle.tdb_read.specs.Views.{IsLogOf, IsReady, IsSafe, LogPart, LogView, area_in, records_in}
 
 -- a key without a place is not in the map
 unlinked : (prog : ℕ) (image : List ℕ) (end : ℕ) (key : List ℕ) (there : Option Stored) → IsLinked prog image end key None there → there ≡ None
@@ -121,3 +122,11 @@ module _ (g : Geometry) (log : LogPart) (image : List ℕ) (safe : IsSafe g log)
 
     pub located : (place.found ≡ true → place.at < length log.table.entries) → IsLocated g image log key place
     located inside = record { place_is = is_place; map_is = in_map place.found refl inside }
+
+-- the table may be searched
+pub can_find : (v : LogView) → IsReady v → CanFind (keys_of v.device (area_in v.device.geometry v.log) v.log.hash_bits 0) v.log.table.entries
+can_find v ready = record {
+  within = λ i lt. omega (arith, (ready.safe.within i lt).1);
+  index = λ keys told. let image = mapped_from (keys_in v.device.geometry (area_in v.device.geometry v.log)) v.device.image keys told in
+      subst (λ (k : KeyMap). IsIndexOf v.log.hash_bits k v.log.table.entries) image.2 (told_table v.device.geometry v.log image.0 ready.safe (ready.stands image.0 image.1)).index;
+}

@@ -53,6 +53,7 @@ fn place_behind<F: Flash>(
         flash,
         area,
         hash_bits,
+        refusals: 0,
     };
     Ok(table.place_after(&mut reader, hash_of(last, hash_bits), last)?)
 }

@@ -20,8 +20,6 @@ use kv_model::{Got, Key, KvError};
 use ram_table::{Place, RamTable};
 use record_core::{Header, read_header_at};
 use std::alloc::Global;
-use std::marker::Brand;
-use std::sync::ledger::Blank;
 use tdb_mount::{MountError, area_at, mount_parts, place_of};
 
 // At least the largest program unit.
@@ -158,9 +156,7 @@ impl<F: Flash> MountedLog<F> {
         ensures finds { Finds (view_of F.state self.old) (view_of F.state self.new) key.now result }
     {
         let area = self.area();
-        let blank = Blank::new(1);
-        let table = &self.table;
-        place_of::<Brand, F>(table, &mut self.flash, area, self.hash_bits, key, blank)
+        place_of(&self.table, &mut self.flash, area, self.hash_bits, key)
     }
 
     /// Reads the value of the table's entry at a place from `offset` on into `buf`, as much as

@@ -35,7 +35,7 @@ returns-in_err-key-clause-first g c =
     (λ image told. c.requires.keys image told c.loop-at.at (omega arith)) in
     let cause = subst (λ (p : ℕ). IsReadFault now new c.in_err-key.field-0.0 ⊎ (HeadBroken now p (end_of c.args.area - p) c.in_err-key.field-0.0 ⊎ KeyBroken now p (end_of c.args.area - p) c.in_err-key.field-0.0))
     c.entry.ensures.offset c.in_err-key.ensures.answer in
-    let refused = refusal_since new c.in_err-key.field-0.0 reads (key_refused now new c.args.area offset inside has c.in_err-key.field-0.0 cause) in
+    let refused = refusal_since new c.in_err-key.field-0.0 reads (key_refused now new c.args.area offset inside has c.in_err-key.field-0.0 c.in_err-key.ensures.counts cause) in
     let p = err_from_is_err_and c.from_residual.result c.from_residual.ensures.1 in
     subst (λ (r : Result (Option (List ℕ)) KvError). MatchResult r (λ found. ForSome old.image (λ image. IsFirstOrNone (keys_in old.geometry c.args.area image) c.args.table.now.entries c.args.prefix.now c.args.from found)) (IsReadRefusal old new)) (sym p.1)
     (subst (IsReadRefusal old new) (sym p.2) refused)

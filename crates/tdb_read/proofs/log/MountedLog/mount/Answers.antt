@@ -6,7 +6,7 @@ use Rattle.tdb_mount.specs.declared.mount.MountError.{MountError}
 use Rattle.tdb_mount.specs.declared.mount.MountError.TheVariants.{BadGeometry}
 use Rattle.tdb_mount.specs.declared.mount.Parts.{Parts}
 use Rattle.tdb_read.specs.Mounting.{IsMounted}
-use Rattle.tdb_read.proofs.MountLemmas.{is_mounted, leaves_ok, log_of, valid_if}
+use Rattle.tdb_read.proofs.MountLemmas.{is_mounted, log_of, valid_if}
 use Rattle.tdb_read.proofs.log.MountedLog.mount.Goals as goal
 
 abbrev mounted : Parts → Result Parts MountError
@@ -24,7 +24,6 @@ returns-in-Ok-buffers-clause-mounted g c =
     let work = length c.in-Ok-buffers.work.items in
     let unit = c.in-Ok-buffers.unit.items in
     subst (λ (its : Iterators). IsMounted old c.args.hash_bits (record { device = new; log = record (log_of c.args.hash_bits parts work unit) { iterators = its } })) (sym c.new.ensures)
-    (is_mounted old new (g.met.F.Flash.lawful c.args.flash) is.runs c.args.hash_bits c.requires.bits parts
-    (valid_if old.geometry (λ bad. not_both parts (is.bad_geometry.1 bad))) is.safe is.mounted
-    (λ image told left now. leaves_ok MountError old.geometry image left parts (is.leaves image told left now))
+    (is_mounted old new is.runs c.args.hash_bits c.requires.bits parts
+    (valid_if old.geometry (λ bad. not_both parts (is.bad_geometry.1 bad))) is.safe is.mounted is.cuts
     work unit c.in-Ok-buffers.ensures.work (c.in-Ok-buffers.ensures.unit ∙ ap (λ (x : Geometry). x.prog) c.geometry.ensures))
