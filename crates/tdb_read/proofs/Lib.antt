@@ -1,0 +1,10 @@
+pub mod RecordLemmas
+pub mod TableLemmas
+pub mod ReadLemmas
+pub mod AnswerLemmas
+pub mod StepLemmas
+pub mod GetLemmas
+pub mod NextLemmas
+pub mod IterLemmas
+pub mod MountLemmas
+pub mod LawLemmas
