@@ -1,0 +1,7 @@
+//! Collection: copying the records that still count to the other area of a device, and then making
+//! that area the active one.
+//!
+//! Places and sizes are in bytes. No call takes memory.
+#![tactic(auto)]
+
+mod payload;
