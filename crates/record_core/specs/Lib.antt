@@ -8,4 +8,5 @@ pub mod Lookup
 pub mod Mounts
 pub mod Reading
 pub mod Record
+pub mod Renewal
 pub mod Written
