@@ -1,1 +1,3 @@
+pub mod CopyLemmas
+pub mod EntryLemmas
 pub mod PayloadLemmas

@@ -4,4 +4,6 @@
 //! Places and sizes are in bytes. No call takes memory.
 #![tactic(auto)]
 
+mod copy;
+mod entries;
 mod payload;
