@@ -38,6 +38,8 @@ module _ (T : Type 0) (geometry : Geometry) (image : List ℕ) (place : ℕ) (by
     steady = λ steady. steady;
     sound = λ sound. refl;
     cause = tt;
+    counts = record { of_reads = refl; of_writes = refl };
+    reads_stand = refl;
     written = λ was told. ap (λ (l : List ℕ). Some (put l place bytes)) (some_is image was told);
     failed = λ was told. tt;
     adds = λ was told. record { moment = omega arith; anew = λ t call c le left. inl left };
@@ -67,6 +69,8 @@ module _ (T : Type 0) (geometry : Geometry) (image : List ℕ) (place : ℕ) (by
       steady = λ steady. steady;
       sound = λ sound. absurd (false≢true sound);
       cause = tt;
+      counts = record { of_reads = refl; of_writes = refl };
+      reads_stand = refl;
       written = λ was told. ap (λ (l : List ℕ). Some (put l place bytes)) (some_is image was told);
       failed = λ was told. tt;
       adds = λ was told. record {
@@ -102,6 +106,8 @@ module _ (T : Type 0) (geometry : Geometry) (image : List ℕ) (place : ℕ) (by
     steady = λ steady. tt;
     sound = λ sound. absurd (false≢true sound);
     cause = (refl, Rose-counted log.faults);
+    counts = tt;
+    reads_stand = refl;
     written = λ was told. tt;
     failed = λ was told left stands. subst (λ (l : List ℕ). Torn place (length bytes) was l) (some_is was left (sym told ∙ stands)) (Torn-refl place (length bytes) was);
     adds = λ was told. record { moment = omega arith; anew = λ t call c le left. inl left };

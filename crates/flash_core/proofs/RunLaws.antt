@@ -1,14 +1,14 @@
 -- How calls that run a device are joined.
-use Rattle.std.proofs.Common.{◌≡◌, ◌⊎◌, ℕ, ◌+◌, ◌≤◌, List, length, inl, inr, ⊎_elim, refl, sym, ◌∙◌, subst}
-use Rattle.std.specs.Prelude.{Option, Some, None, Result, Ok, Err, IsErr, IsOk, IsTrue, IfErr}
+use Rattle.std.proofs.Common.{◌≡◌, ◌⊎◌, ℕ, ◌+◌, ◌≤◌, List, length, inl, inr, ⊎_elim, refl, sym, ◌∙◌, ap, arith, subst}
+use Rattle.std.specs.Prelude.{◌<◌, Option, Some, None, Result, Ok, Err, IsErr, IsOk, IsTrue, IfErr}
 use Rattle.std.specs.Option.{ForSome}
 use mathlib.Core.Bool.{false≢true}
 use Rattle.base_core.proofs.CountLemmas.{Rose-since}
 use Rattle.flash_core.specs.declared.flash.FlashFault.{FlashFault}
 use Rattle.flash_core.specs.declared.flash.FlashFault.TheVariants.{Read, Write}
-use Rattle.flash_core.specs.Calls.{IsMomentWithin, Keeps, OnlyReads, Reads, Writes}
+use Rattle.flash_core.specs.Calls.{CountsStand, IsMomentWithin, Keeps, OnlyReads, Reads, Writes}
 use Rattle.flash_core.specs.Images.{put}
-use Rattle.flash_core.specs.Runs.{Ending, Done, ReadFailed, WriteFailed, OutOfMemory, Refused, IfFailed, IsCause, IsCauseOfRead, ReadsBy, RunsBy, UnlessFailed, UnlessShort, ended, fault_ending}
+use Rattle.flash_core.specs.Runs.{Ending, Done, ReadFailed, WriteFailed, OutOfMemory, Refused, AnswersFaults, IfFailed, IsCause, IsCauseOfRead, IsCounted, ReadsBy, RunsBy, UnlessFailed, UnlessShort, ended, ending_by, fault_ending}
 use Rattle.flash_core.specs.State.{DeviceCall, FlashState}
 use Rattle.flash_core.proofs.KeptLaws.{Keeps-OnlyReads, Keeps-trans, OnlyReads-refl, OnlyReads-trans, told_after}
 use Rattle.flash_core.proofs.MomentLaws.{failed_inside, failed_weakened, joined, only_reads, weakened}
@@ -58,12 +58,66 @@ NoFault Done = Unit {0}
 NoFault OutOfMemory = Unit {0}
 NoFault Refused = Unit {0}
 
+-- ---- counts of faults
+
+pub counts_same : {a b c : FlashState} → CountsStand a b → CountsStand b c → CountsStand a c
+counts_same first second = record { of_reads = second.of_reads ∙ first.of_reads; of_writes = second.of_writes ∙ first.of_writes }
+
+-- behind calls that counted no fault
+pub IsCounted-then : (old mid new : FlashState) (ending : Ending) → CountsStand old mid → IsCounted mid new ending → IsCounted old new ending
+IsCounted-then old mid new ReadFailed stand counts = counts ∙ stand.of_writes
+IsCounted-then old mid new WriteFailed stand counts = counts ∙ stand.of_reads
+IsCounted-then old mid new Done stand counts = counts_same stand counts
+IsCounted-then old mid new OutOfMemory stand counts = counts_same stand counts
+IsCounted-then old mid new Refused stand counts = counts_same stand counts
+
+pub IsCounted-has : (old new : FlashState) (ending : Ending) → CountsStand old new → IsCounted old new ending
+IsCounted-has old new ReadFailed stand = stand.of_writes
+IsCounted-has old new WriteFailed stand = stand.of_reads
+IsCounted-has old new Done stand = stand
+IsCounted-has old new OutOfMemory stand = stand
+IsCounted-has old new Refused stand = stand
+
+-- where a count of faults rose, the ending is that fault
+pub read_rose : (old new : FlashState) (ending : Ending) → IsCounted old new ending → old.read_faults < new.read_faults → ending ≡ ReadFailed
+read_rose old new ReadFailed counts rose = refl
+read_rose old new WriteFailed counts rose = absurd (omega (arith, counts, rose))
+read_rose old new Done counts rose = absurd (omega (arith, counts.of_reads, rose))
+read_rose old new OutOfMemory counts rose = absurd (omega (arith, counts.of_reads, rose))
+read_rose old new Refused counts rose = absurd (omega (arith, counts.of_reads, rose))
+
+pub write_rose : (old new : FlashState) (ending : Ending) → IsCounted old new ending → old.write_faults < new.write_faults → ending ≡ WriteFailed
+write_rose old new ReadFailed counts rose = absurd (omega (arith, counts, rose))
+write_rose old new WriteFailed counts rose = refl
+write_rose old new Done counts rose = absurd (omega (arith, counts.of_writes, rose))
+write_rose old new OutOfMemory counts rose = absurd (omega (arith, counts.of_writes, rose))
+write_rose old new Refused counts rose = absurd (omega (arith, counts.of_writes, rose))
+
+done_is_no_fault : {P : Type 0} (ending : Ending) → (ending ≡ ReadFailed) ⊎ (ending ≡ WriteFailed) → Done ≡ ending → P
+done_is_no_fault ending (inl failed) is = cc
+done_is_no_fault ending (inr failed) is = cc
+
+abbrev refusal : (T E : Type 0) → E → Result T E
+refusal T E e = Err e
+
+error_is : {T E : Type 0} (of_error : E → Ending) (ending : Ending) (fault : E) → (ending ≡ ReadFailed) ⊎ (ending ≡ WriteFailed) → ((e : E) → of_error e ≡ ending → e ≡ fault) → (result : Result T E) → ending_by of_error result ≡ ending → result ≡ Err fault
+error_is of_error ending fault failed only (Ok x) is = done_is_no_fault ending failed is
+error_is {T} {E} of_error ending fault failed only (Err e) is = ap (refusal T E) (only e is)
+
+-- So is the answer, by what each error says of its ending: these two alone are faults.
+pub answers_faults : {T E : Type 0} {old new : FlashState} (of_error : E → Ending) (read write : E) → ((e : E) → of_error e ≡ ReadFailed → e ≡ read) → ((e : E) → of_error e ≡ WriteFailed → e ≡ write) → (result : Result T E)
+    → IsCounted old new (ending_by of_error result) → AnswersFaults old new read write result
+answers_faults {T} {E} {old} {new} of_error read write only_read only_write result counts = record {
+  of_reads = λ rose. error_is of_error ReadFailed read (inl refl) only_read result (read_rose old new (ending_by of_error result) counts rose);
+  of_writes = λ rose. error_is of_error WriteFailed write (inr refl) only_write result (write_rose old new (ending_by of_error result) counts rose);
+}
+
 -- ---- readers
 
 pub reads_none : (s : FlashState) (ending : Ending) → NoFault ending → ReadsBy s s ending
-reads_none s Done fine = record { kept = OnlyReads-refl s; cause = tt }
-reads_none s OutOfMemory fine = record { kept = OnlyReads-refl s; cause = tt }
-reads_none s Refused fine = record { kept = OnlyReads-refl s; cause = tt }
+reads_none s Done fine = record { kept = OnlyReads-refl s; cause = tt; counts = record { of_reads = refl; of_writes = refl } }
+reads_none s OutOfMemory fine = record { kept = OnlyReads-refl s; cause = tt; counts = record { of_reads = refl; of_writes = refl } }
+reads_none s Refused fine = record { kept = OnlyReads-refl s; cause = tt; counts = record { of_reads = refl; of_writes = refl } }
 reads_none s ReadFailed fine = absurd fine
 reads_none s WriteFailed fine = absurd fine
 
@@ -75,17 +129,18 @@ cause_of_read old mid new OutOfMemory only cause = tt
 cause_of_read old mid new Refused only cause = tt
 
 -- a reader behind others
-pub reads_then : {old mid new : FlashState} {ending : Ending} → OnlyReads old mid → ReadsBy mid new ending → ReadsBy old new ending
-reads_then {old} {mid} {new} {ending} only reads = record {
-  kept = OnlyReads-trans only reads.kept;
-  cause = cause_of_read old mid new ending only reads.cause;
+pub reads_then : {old mid new : FlashState} {ending : Ending} → ReadsBy old mid Done → ReadsBy mid new ending → ReadsBy old new ending
+reads_then {old} {mid} {new} {ending} first reads = record {
+  kept = OnlyReads-trans first.kept reads.kept;
+  cause = cause_of_read old mid new ending first.kept reads.cause;
+  counts = IsCounted-then old mid new ending first.counts reads.counts;
 }
 
 -- a reader that ended well, and then refuses
 pub reads_end : {old new : FlashState} (ending : Ending) → NoFault ending → ReadsBy old new Done → ReadsBy old new ending
 reads_end Done fine reads = reads
-reads_end OutOfMemory fine reads = record { kept = reads.kept; cause = tt }
-reads_end Refused fine reads = record { kept = reads.kept; cause = tt }
+reads_end OutOfMemory fine reads = record { kept = reads.kept; cause = tt; counts = reads.counts }
+reads_end Refused fine reads = record { kept = reads.kept; cause = tt; counts = reads.counts }
 reads_end ReadFailed fine reads = absurd fine
 reads_end WriteFailed fine reads = absurd fine
 
@@ -93,8 +148,8 @@ not_ok : (T : Type 0) {E : Type 0} (e : E) → IsOk {T = T} (Err e) → ⊥
 not_ok T e is = false≢true is
 
 pub one_read : {T : Type 0} {old new : FlashState} {place : ℕ} {buf : List ℕ} (result : Result T FlashFault) → Reads old new place buf result → ReadsBy old new (ended result)
-one_read (Ok x) read = record { kept = read.kept; cause = tt }
-one_read {T} (Err Read) read = record { kept = read.kept; cause = (read.cause.1, λ steady. not_ok T Read (read.steady steady)) }
+one_read (Ok x) read = record { kept = read.kept; cause = tt; counts = read.counts }
+one_read {T} (Err Read) read = record { kept = read.kept; cause = (read.cause.1, λ steady. not_ok T Read (read.steady steady)); counts = read.kept.write_faults }
 one_read (Err Write) read = cc (read.cause.0)
 
 -- ---- what every call may do
@@ -121,6 +176,7 @@ pub runs_reads : {old new : FlashState} {ending : Ending} (R : List ℕ → Opti
 runs_reads {old} {new} {ending} R reads here = record {
   kept = Keeps-OnlyReads reads.kept;
   cause = cause_of_reader old new ending reads.cause;
+  counts = reads.counts;
   steady = λ steady. UnlessShort-has ending (reads.kept.steady steady);
   adds = λ image told. only_reads (R image) reads.kept;
   stands = λ image told. UnlessFailed-has ending (λ left stands. subst (λ (l : List ℕ). R image None l) (some_is image left (sym told ∙ sym reads.kept.image ∙ stands)) (here image told));
@@ -138,6 +194,7 @@ runs_end Done fine runs = runs
 runs_end OutOfMemory fine runs = record {
   kept = runs.kept;
   cause = tt;
+  counts = runs.counts;
   steady = λ steady. tt;
   adds = runs.adds;
   stands = runs.stands;
@@ -149,6 +206,7 @@ runs_end WriteFailed fine runs = absurd fine
 runs_end Refused fine runs = record {
   kept = runs.kept;
   cause = tt;
+  counts = runs.counts;
   steady = runs.steady;
   adds = runs.adds;
   stands = runs.stands;
@@ -162,6 +220,7 @@ pub runs_weakened : {old new : FlashState} {R : List ℕ → Option DeviceCall �
 runs_weakened {old} {new} {R} {ending} S implies runs = record {
   kept = runs.kept;
   cause = runs.cause;
+  counts = runs.counts;
   steady = runs.steady;
   adds = λ image told. weakened (S image) (implies image told) (runs.adds image told);
   stands = λ image told. UnlessFailed-map ending (λ has left stands. implies image told None left (has left stands)) (runs.stands image told);
@@ -182,6 +241,7 @@ pub runs_then : {old mid new : FlashState} {R S : List ℕ → Option DeviceCall
 runs_then {old} {mid} {new} {R} {S} {ending} first second fits = record {
   kept = Keeps-trans first.kept second.kept;
   cause = cause_then old mid new ending first.kept first.steady second.cause;
+  counts = IsCounted-then old mid new ending first.counts second.counts;
   steady = λ steady. second.steady (first.steady steady);
   adds = λ image told.
       let now = told_after first.kept told in
@@ -216,6 +276,7 @@ pub one_write : {T : Type 0} {old new : FlashState} {place : ℕ} {bytes : List 
 one_write {T} {old} {new} {place} {bytes} R (Ok x) wrote fits was here = record {
   kept = wrote.kept;
   cause = tt;
+  counts = wrote.counts;
   steady = wrote.steady;
   adds = λ image told. weakened (R image) (λ call c moment. here image told call c moment.0) (wrote.adds image told);
   stands = λ image told left stands. subst (λ (l : List ℕ). R image None l) (some_is (put image place bytes) left (sym (wrote.written image told) ∙ stands)) (here image told None (put image place bytes) refl);
@@ -225,6 +286,7 @@ one_write {T} {old} {new} {place} {bytes} R (Ok x) wrote fits was here = record 
 one_write {T} {old} {new} {place} {bytes} R (Err Write) wrote fits was here = record {
   kept = wrote.kept;
   cause = (wrote.cause.1, λ sound. not_ok T Write (wrote.sound sound));
+  counts = wrote.reads_stand;
   steady = λ steady. tt;
   adds = λ image told. weakened (R image) (λ call c moment. here image told call c moment.0) (wrote.adds image told);
   stands = λ image told. tt;

@@ -61,12 +61,18 @@ pub record OnlyReads (old new : FlashState) : Type 0 where
   pub moment : new.moment ≡ old.moment
   pub told : (t : ℕ) (call : Option DeviceCall) (c : List ℕ) → new.left_since t call c ↔ old.left_since t call c
 
+-- Neither count of faults has changed.
+pub record CountsStand (old new : FlashState) : Type 0 where
+  pub of_reads : new.read_faults ≡ old.read_faults
+  pub of_writes : new.write_faults ≡ old.write_faults
+
 -- A read into a buffer, which holds these bytes afterwards.
 pub record Reads {T : Type 0} (old new : FlashState) (place : ℕ) (buf : List ℕ) (result : Result T FlashFault) : Type 0 where
   pub kept : OnlyReads old new
   pub steady : IsTrue old.steady → IsOk result
   pub bytes : ForSome old.image (λ image. OnOk result (buf ≡ part image place (length buf)))
   pub cause : IfErr result (λ fault. (fault ≡ Read) × Rose old.read_faults new.read_faults)
+  pub counts : OnOk result (CountsStand old new)
 
 -- A moment of a program or erase of these bytes at this place: inside it, or behind it when whole.
 abbrev pub IsMomentWithin : List ℕ → ℕ → List ℕ → Option DeviceCall → List ℕ → Type 0
@@ -96,6 +102,8 @@ pub record Writes {T : Type 0} (old new : FlashState) (place : ℕ) (bytes : Lis
   pub steady : IsTrue old.steady → OnOk result (IsTrue new.steady)
   pub sound : IsTrue old.sound → IsOk result
   pub cause : IfErr result (λ fault. (fault ≡ Write) × Rose old.write_faults new.write_faults)
+  pub counts : OnOk result (CountsStand old new)
+  pub reads_stand : new.read_faults ≡ old.read_faults
   pub written : ForSome old.image (λ image. OnOk result (new.image ≡ Some (put image place bytes)))
   pub failed : ForSome old.image (λ image. OnErr result (ForSome new.image (λ left. Torn place (length bytes) image left)))
   -- no moment is told anew but those of this call

@@ -1,10 +1,10 @@
 -- What a call may do to a device.
-use Rattle.std.specs.Prelude.{◌≡◌, ℕ, List, IsTrue, Option, None, Result, Ok, Err}
+use Rattle.std.specs.Prelude.{◌≡◌, ◌<◌, ℕ, List, IsTrue, Option, None, Result, Ok, Err}
 use Rattle.std.specs.Option.{ForSome}
 use Rattle.base_core.specs.Counts.{Rose}
 use Rattle.flash_core.specs.declared.flash.FlashFault.{FlashFault}
 use Rattle.flash_core.specs.declared.flash.FlashFault.TheVariants.{Read, Write}
-use Rattle.flash_core.specs.Calls.{Keeps, OnlyReads}
+use Rattle.flash_core.specs.Calls.{CountsStand, Keeps, OnlyReads}
 use Rattle.flash_core.specs.Moments.{Adds, FailedInside}
 use Rattle.flash_core.specs.State.{DeviceCall, FlashState}
 
@@ -37,6 +37,19 @@ IsCause old new Done = Unit {0}
 IsCause old new OutOfMemory = Unit {0}
 IsCause old new Refused = Unit {0}
 
+-- Both counts of faults stand, unless a read or a write failed, and then the other one does.
+abbrev pub IsCounted : FlashState → FlashState → Ending → Type 0
+IsCounted old new ReadFailed = new.write_faults ≡ old.write_faults
+IsCounted old new WriteFailed = new.read_faults ≡ old.read_faults
+IsCounted old new Done = CountsStand old new
+IsCounted old new OutOfMemory = CountsStand old new
+IsCounted old new Refused = CountsStand old new
+
+-- Where a count of faults rose, the result is this error for a read that failed, or this one for a write.
+pub record AnswersFaults {T E : Type 0} (old new : FlashState) (read write : E) (result : Result T E) : Type 0 where
+  pub of_reads : old.read_faults < new.read_faults → result ≡ Err read
+  pub of_writes : old.write_faults < new.write_faults → result ≡ Err write
+
 -- P, unless a program or erase failed
 abbrev pub UnlessFailed : Ending → Type 0 → Type 0
 UnlessFailed WriteFailed P = Unit {0}
@@ -66,6 +79,7 @@ UnlessShort Refused P = P
 pub record RunsBy (old new : FlashState) (R : List ℕ → Option DeviceCall → List ℕ → Type 0) (ending : Ending) : Type 0 where
   pub kept : Keeps old new
   pub cause : IsCause old new ending
+  pub counts : IsCounted old new ending
   pub steady : IsTrue old.steady → UnlessShort ending (IsTrue new.steady)
   -- each moment that the call adds has R, and so has the image that stands unless a program or erase failed
   pub adds : ForSome old.image (λ image. Adds old new (R image))
@@ -86,3 +100,4 @@ IsCauseOfRead old new Refused = Unit {0}
 pub record ReadsBy (old new : FlashState) (ending : Ending) : Type 0 where
   pub kept : OnlyReads old new
   pub cause : IsCauseOfRead old new ending
+  pub counts : IsCounted old new ending

@@ -119,6 +119,8 @@ module _ (T : Type 0) (chip : ChipState) (place : ℕ) (bytes : List ℕ) (fits 
     steady = steady_on;
     sound = λ sound. refl;
     cause = tt;
+    counts = record { of_reads = refl; of_writes = refl };
+    reads_stand = refl;
     written = λ was told. ap (λ (l : List ℕ). Some (put l place bytes)) (some_is chip.image was told);
     failed = λ was told. tt;
     adds = λ was told. record { moment = omega arith; anew = λ t call c le left. inl left };
@@ -144,6 +146,8 @@ module _ (T : Type 0) (chip : ChipState) (place : ℕ) (bytes : List ℕ) (fits 
     steady = λ steady. tt;
     sound = λ sound. absurd (goes_not_fails (sym (sound_goes chip sound) ∙ fate));
     cause = (refl, Rose-counted chip.writes.faults);
+    counts = tt;
+    reads_stand = refl;
     written = λ was told. tt;
     failed = λ was told left stands. subst (λ (l : List ℕ). Torn place (length bytes) was l) (some_is was left (sym told ∙ stands)) (Torn-refl place (length bytes) was);
     adds = λ was told. record { moment = omega arith; anew = λ t call c le left. inl left };
@@ -175,6 +179,8 @@ module _ (T : Type 0) (chip : ChipState) (place : ℕ) (bytes : List ℕ) (fits 
         steady = λ steady. tt;
         sound = λ sound. absurd (goes_not_tears p (sym (sound_goes chip sound) ∙ fate));
         cause = (refl, Rose-counted chip.writes.faults);
+        counts = tt;
+        reads_stand = refl;
         written = λ was told. tt;
         failed = λ was told left stands.
             subst (λ (l : List ℕ). Torn place (length bytes) l left) (some_is chip.image was told)
@@ -255,18 +261,25 @@ rose_by : (fails : Bool) (plan : PlanState) → (fails ≡ false → ⊥) → Ro
 rose_by true plan fails = Rose-counted plan.faults
 rose_by false plan fails = absurd (fails refl)
 
+-- one that goes on counts none
+faults_stand : (fails : Bool) (plan : PlanState) → fails ≡ false → (if fails then after_fault (after_call plan) else after_call plan).faults ≡ plan.faults
+faults_stand false plan goes = refl
+faults_stand true plan goes = absurd (false≢true (sym goes))
+
 read_by : {T : Type 0} (chip : ChipState) (place : ℕ) (buf : List ℕ) (r : Result T FlashFault) → (IsOk r ↔ (read_fails chip ≡ false)) → IfErr r (λ f. f ≡ Read) → OnOk r (buf ≡ part chip.image place (length buf)) → Reads (device_of chip) (device_of (after_read chip)) place buf r
 read_by {T} chip place buf (Ok x) ok same bytes = record {
   kept = only_reads chip;
   steady = λ steady. refl;
   bytes = λ was told. subst (λ (l : List ℕ). buf ≡ part l place (length buf)) (some_is chip.image was told) bytes;
   cause = tt;
+  counts = record { of_reads = faults_stand (read_fails chip) chip.reads (ok.0 refl); of_writes = refl };
 }
 read_by {T} chip place buf (Err e) ok same bytes = record {
   kept = only_reads chip;
   steady = λ steady. ok.1 (steady_reads chip steady);
   bytes = λ was told. tt;
   cause = (same, rose_by (read_fails chip) chip.reads (λ goes. false≢true (ok.1 goes)));
+  counts = tt;
 }
 
 -- a read of the chip is one of a device

@@ -56,7 +56,7 @@ module _ (before after : List ℕ) where
   stand_before [] all = tt
   stand_before (read ∷ reads) all = (inl all.0, stand_before reads all.1)
 
-  stand_after : (reads : List (ℕ × List ℕ)) → Stand after reads → AllStand before after reads
+  pub stand_after : (reads : List (ℕ × List ℕ)) → Stand after reads → AllStand before after reads
   stand_after [] all = tt
   stand_after (read ∷ reads) all = (inr all.0, stand_after reads all.1)
 

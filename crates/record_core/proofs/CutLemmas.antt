@@ -1,5 +1,5 @@
 -- What each moment of a record's write leaves of what an image holds.
-use Rattle.std.proofs.Common.{◌≡◌, ◌⊎◌, ℕ, ◌+◌, ◌-◌, ◌*◌, ◌<◌, ◌≤◌, List, [], ◌∷◌, ◌++◌, length, get_or, take, IsTrue, refl, sym, ◌∙◌, ap, subst, arith, inl, inr, ⊎_elim, Some, None}
+use Rattle.std.proofs.Common.{◌≡◌, ◌⊎◌, ℕ, ◌+◌, ◌≤◌, List, [], ◌∷◌, ◌++◌, length, take, IsTrue, refl, sym, ◌∙◌, ap, subst, arith, inl, inr, ⊎_elim, Some, None}
 use Rattle.std.specs.Prelude.{Option}
 use Rattle.std.proofs.lemmas.List.{length-take-le}
 use Rattle.base_core.specs.Units.{up}
@@ -17,12 +17,12 @@ use Rattle.kv_model.specs.Keys.{is_key}
 use Rattle.kv_model.specs.Write.{Write}
 use Rattle.record_core.specs.Chance.{AllStand, FirstBreak, NoChance}
 use Rattle.record_core.specs.CutMoments.{CutStrictly, HoldsOneOf, IsCut, MayAppend, with_record}
-use Rattle.record_core.specs.Cuts.{IsApartFromMaster, IsHeaderCall, IsInArea, active_of, base_of}
+use Rattle.record_core.specs.Cuts.{IsApartFromMaster, IsHeaderCall, base_of}
 use Rattle.record_core.specs.Header.{IsHeader}
-use Rattle.record_core.specs.Log.{AreAllRecords, AreRecords, IsRecordAt, extent, spelling_of}
+use Rattle.record_core.specs.Log.{AreAllRecords, extent, spelling_of}
 use Rattle.record_core.specs.Mounts.{ActiveRecords, Contents, Holds, reads_of}
 use Rattle.record_core.specs.Record.{record_bytes, record_header, record_payload}
-use Rattle.record_core.specs.Written.{AppendsRecord, Ascends, InUnits}
+use Rattle.record_core.specs.Written.{AppendsRecord, Ascends}
 use Rattle.record_core.proofs.ChanceLemmas.{chance_excludes_break, no_chance_after, one_first_break, stand_before}
 use Rattle.record_core.proofs.Existence.{master_within}
 use Rattle.record_core.proofs.LogLemmas.{AreRecords-append, AreRecords-Torn, IsRecordAt-put, extent-positive, no_record_erased}

@@ -11,6 +11,7 @@ use Rattle.flash_core.specs.declared.geometry.Geometry.{Geometry}
 use Rattle.flash_core.specs.Images.{part}
 use Rattle.flash_core.specs.Sizes.{IsValid, area_size}
 use Rattle.flash_core.proofs.GeometryLaws.{prog_positive}
+use Rattle.kv_model.specs.declared.limits.TheConstants.{MAX_VALUE}
 use Rattle.kv_model.specs.Flags.{remove_flags}
 use Rattle.kv_model.specs.Write.{Write}
 use Rattle.kv_model.specs.Keys.{is_key, master_key}
@@ -85,7 +86,7 @@ known_header flags key_size value_size =
     (known_both (known_one (cases_eq flags 0) (known_one (cases_eq flags 1) (cases_eq flags remove_flags)))
     (known_both (known_le 1 key_size)
     (known_both (known_le key_size 128)
-    (known_both (known_le value_size 65592)
+    (known_both (known_le value_size MAX_VALUE)
     (known_if (cases_eq flags remove_flags) (cases_eq value_size 0))))))
 
 -- ---- masters

@@ -8,10 +8,15 @@ pub mod FormatCuts
 pub mod HeaderLemmas
 pub mod LogLemmas
 pub mod LookupLemmas
+pub mod MapCuts
 pub mod MountLemmas
 pub mod PayloadLemmas
+pub mod RangeLemmas
 pub mod ReaderLemmas
 pub mod RecordLemmas
+pub mod RenewalCuts
+pub mod RenewalLemmas
 pub mod SizeLemmas
 pub mod TornLemmas
 pub mod WriterLemmas
+pub mod WithinLemmas

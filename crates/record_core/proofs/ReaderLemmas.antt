@@ -4,12 +4,14 @@ use Rattle.std.specs.Prelude.{◌↔◌, Bool, Option, Some, None, Result, Ok, E
 use mathlib.Core.Bool.{false≢true}
 use Rattle.std.specs.Int.{w32, to_le_bytes}
 use Rattle.std.proofs.lemmas.List.{length-replicate}
-use Rattle.flash_core.specs.Calls.{OnlyReads}
+use Rattle.flash_core.specs.Calls.{CountsStand, OnlyReads}
+use Rattle.flash_core.specs.Runs.{ReadsBy}
 use Rattle.flash_core.specs.Images.{part}
 use Rattle.flash_core.specs.State.{FlashState}
 use Rattle.flash_core.proofs.ImageLaws.{length-part, part-append}
 use Rattle.base_core.proofs.CountLemmas.{Rose-since}
 use Rattle.flash_core.proofs.KeptLaws.{OnlyReads-trans}
+use Rattle.flash_core.proofs.RunLaws.{counts_same}
 use Rattle.kv_model.specs.Crc.{crc_from, crc_of}
 use Rattle.kv_model.specs.declared.error.KvError.{KvError}
 use Rattle.kv_model.specs.Write.{Write}
@@ -19,6 +21,7 @@ use Rattle.base_core.specs.Sizes.{master_size, record_size}
 use Rattle.kv_model.proofs.CrcLemmas.{crc_from-append}
 use Rattle.base_core.proofs.UnitLemmas.{up-ge}
 use Rattle.record_core.specs.declared.header.Header.{Header}
+use Rattle.record_core.specs.Endings.{kv_ended, kv_ending}
 use Rattle.record_core.specs.Header.{header_bytes, header_front, HasFields, IsHeader, IsValid}
 use Rattle.record_core.specs.Log.{IsRecordAt}
 use Rattle.record_core.specs.Reading.{HasNoRecord, HasRead, HasRecord, IsFitting, IsPadded, IsWhole, crc_read}
@@ -32,16 +35,18 @@ use Rattle.record_core.proofs.RecordLemmas.{length-header_bytes, length-record_h
 abbrev refusal : {T : Type 0} → KvError → Result T KvError
 refusal e = Err e
 
-pub after_reads : {T : Type 0} {a b c : FlashState} (result : Result T KvError) → OnlyReads a b → HasRead b c result → HasRead a c result
-after_reads (Ok x) first second = record {
+pub after_reads : {T : Type 0} {a b c : FlashState} (result : Result T KvError) → OnlyReads a b → CountsStand a b → HasRead b c result → HasRead a c result
+after_reads (Ok x) first stand second = record {
   kept = OnlyReads-trans first second.kept;
   steady = λ steady. second.steady (first.steady steady);
   cause = second.cause;
+  counts = counts_same stand second.counts;
 }
-after_reads (Err e) first second = record {
+after_reads (Err e) first stand second = record {
   kept = OnlyReads-trans first second.kept;
   steady = λ steady. second.steady (first.steady steady);
   cause = (second.cause.0, Rose-since first.read_faults second.cause.1);
+  counts = tt;
 }
 
 -- a refusal is handed on
@@ -51,7 +56,17 @@ refused (Err x) e is read = record {
   kept = read.kept;
   steady = λ steady. absurd (false≢true (read.steady steady));
   cause = (is ∙ read.cause.0, read.cause.1);
+  counts = tt;
 }
+
+-- how such a call ended
+pub has_read_by : {T : Type 0} {old new : FlashState} (result : Result T KvError) → HasRead old new result → ReadsBy old new (kv_ended result)
+has_read_by (Ok x) read = record { kept = read.kept; cause = tt; counts = read.counts }
+has_read_by {T} {old} {new} (Err e) read = subst (λ (k : KvError). ReadsBy old new (kv_ending k)) (sym read.cause.0) (record {
+  kept = read.kept;
+  cause = (read.cause.1, λ steady. false≢true (read.steady steady));
+  counts = read.kept.write_faults;
+})
 
 -- a range and the one behind it
 pub crc_of-more : (start : ℕ) (image : List ℕ) (place done count : ℕ) → crc_from (crc_from start (part image place done)) (part image (place + done) count) ≡ crc_from start (part image place (done + count))

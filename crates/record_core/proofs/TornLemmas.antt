@@ -235,7 +235,7 @@ abbrev area_if : Bool → Option ℕ
 area_if b = Some (if b then 1 else 0)
 
 -- without the master record of a spare area the same area is active
-active_without : (c : Contents) (k : ℕ) → (k ≡ 0) ⊎ (k ≡ 1) → (active_of c ≡ Some k → ⊥) → active_of (with_version k None c) ≡ active_of c
+pub active_without : (c : Contents) (k : ℕ) → (k ≡ 0) ⊎ (k ≡ 1) → (active_of c ≡ Some k → ⊥) → active_of (with_version k None c) ≡ active_of c
 active_without c k (inl is) spare = subst (λ (j : ℕ). active_of (with_version j None c) ≡ active_of c) (sym is) (first_out c.first c.second (λ active. spare (active ∙ ap Some (sym is))))
   where
     of_test : (b : Bool) → (area_if b ≡ Some 0 → ⊥) → second_area ≡ area_if b

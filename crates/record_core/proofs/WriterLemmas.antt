@@ -1,6 +1,6 @@
 -- Bytes written to a range a piece at a time, and a record.
-use Rattle.std.proofs.Common.{◌≡◌, ◌⊎◌, ℕ, ◌+◌, ◌-◌, ◌<◌, ◌≤◌, List, [], ◌++◌, length, take, drop, refl, sym, ◌∙◌, ap, subst, arith, inl, inr, ⊎_elim, add-zero, append-nil, min, ◌/◌, ◌%◌, ◌*◌}
-use Rattle.std.specs.Prelude.{Option, Some, None, Result, Ok, Err, IsErr, IfErr}
+use Rattle.std.proofs.Common.{◌≡◌, ℕ, ◌+◌, ◌-◌, ◌<◌, ◌≤◌, List, [], ◌++◌, length, take, drop, sym, ◌∙◌, ap, subst, arith, inl, inr, ⊎_elim, add-zero, append-nil, min, ◌/◌, ◌%◌, ◌*◌}
+use Rattle.std.specs.Prelude.{Option, Some, None, Result, Ok}
 use Rattle.std.specs.Option.{ForSome}
 use Rattle.std.proofs.lemmas.List.{places, same_lists, take-append-drop, length-take-le}
 use Rattle.std.proofs.Math.Seq.{take-add}
@@ -8,21 +8,19 @@ use Rattle.std.proofs.Math.Nat.{zero-mod}
 use Rattle.std.proofs.lemmas.Nat.{div-add-mod', mod_below}
 use Rattle.std.proofs.lemmas.Bool.{cases_lt}
 use Rattle.std.proofs.lemmas.Result.{on_ok_weaker}
-use mathlib.Core.Bool.{false≢true}
 use Rattle.base_core.specs.Sizes.{master_size}
 use Rattle.base_core.specs.Units.{IsMultipleOf, up}
 use Rattle.base_core.proofs.UnitLemmas.{IsMultipleOf-add, IsMultipleOf-mul, IsMultipleOf-sub, unit_fits, up-ge, up-least, up-multiple}
 use Rattle.flash_core.specs.declared.flash.FlashFault.{FlashFault}
-use Rattle.flash_core.specs.declared.flash.FlashFault.TheVariants as fault
 use Rattle.flash_core.specs.declared.geometry.Geometry.{Geometry}
 use Rattle.flash_core.specs.Calls.{CanProgram, IsMomentWithin, Keeps, Writes}
-use Rattle.flash_core.specs.Images.{part, put, IsErased, Torn}
+use Rattle.flash_core.specs.Images.{part, put, IsErased}
 use Rattle.flash_core.specs.Runs.{Done, RunsBy, WriteFailed, ended}
 use Rattle.flash_core.specs.Sizes.{IsValid, area_size, size_of}
 use Rattle.flash_core.specs.State.{DeviceCall, FlashState, IsLawful, OnImage}
 use Rattle.flash_core.specs.TwoPrograms.{payload_put}
 use Rattle.flash_core.proofs.GeometryLaws.{area_whole_progs, prog_positive, prog_le_erase, size-areas}
-use Rattle.flash_core.proofs.ImageLaws.{IsErased-Torn, Torn-put, length-part, length-put}
+use Rattle.flash_core.proofs.ImageLaws.{IsErased-Torn, Torn-put, length-part}
 use Rattle.flash_core.proofs.KeptLaws.{CanProgram-kept, told_before}
 use Rattle.flash_core.proofs.RunLaws.{runs_more, runs_none, runs_weakened}
 use Rattle.record_core.specs.Record.{record_bytes, record_header, record_payload}

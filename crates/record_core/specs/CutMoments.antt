@@ -1,13 +1,14 @@
 -- What each moment of a call leaves, where a record that nobody wrote isn't there by chance.
-use Rattle.std.specs.Prelude.{◌≡◌, ◌⊎◌, ℕ, ◌+◌, List, [], ◌∷◌, ◌++◌, Option, Some, None, slice_index}
+use Rattle.std.specs.Prelude.{◌≡◌, ◌⊎◌, ℕ, ◌+◌, List, [], ◌∷◌, ◌++◌, IsTrue, Option, Some, None, slice_index}
 use Rattle.flash_core.specs.declared.geometry.Geometry.{Geometry}
 use Rattle.flash_core.specs.Sizes.{area_size}
-use Rattle.flash_core.specs.State.{DeviceCall, after_of, before_of}
+use Rattle.flash_core.specs.State.{DeviceCall, FlashState, after_of, before_of}
+use Rattle.kv_model.specs.FlaggedMap.{FlaggedMap}
 use Rattle.kv_model.specs.Write.{Write}
 use Rattle.record_core.specs.Chance.{FirstBreak, NoChance}
 use Rattle.record_core.specs.Cuts.{IsInArea, active_of, base_of}
 use Rattle.record_core.specs.Log.{extent}
-use Rattle.record_core.specs.Mounts.{Contents, Holds}
+use Rattle.record_core.specs.Mounts.{Contents, Holds, Mounts}
 
 -- Of the image that a cut inside a call leaves P holds, unless it holds a record by chance; the first such record stands
 -- at this place.
@@ -20,6 +21,21 @@ pub record IsCut (g : Geometry) (P : List ℕ → Type 0) (before after torn : L
 abbrev pub CutStrictly : Geometry → (List ℕ → Type 0) → Option DeviceCall → List ℕ → Type 0
 CutStrictly g P None c = P c
 CutStrictly g P (Some call) c = IsCut g P (before_of call c) (after_of call c) c call.place
+
+-- what a run may leave at each moment, over the image at its entry, as far as chance goes
+abbrev pub Cuts : Geometry → (List ℕ → List ℕ → Type 0) → List ℕ → Option DeviceCall → List ℕ → Type 0
+Cuts g P image call left = CutStrictly g (P image) call left
+
+-- The image that stands after a program or erase that failed has P, as far as chance goes in that call. Where the device
+-- tells torn calls it tells this one, unless the image has P whatever chance does.
+pub record FailedStrictly (g : Geometry) (P : List ℕ → Type 0) (s : FlashState) (left : List ℕ) : Type 0 where
+  pub call : DeviceCall
+  pub cut : IsCut g P (before_of call left) (after_of call left) left call.place
+  pub told : IsTrue s.tells_torn → (s.torn ≡ Some call) ⊎ P left
+
+-- the image mounts to one of these two maps
+abbrev pub MountsToOne : Geometry → FlaggedMap → FlaggedMap → List ℕ → Type 0
+MountsToOne g u v image = Mounts g image u ⊎ Mounts g image v
 
 -- the contents with one record more
 abbrev pub with_record : ℕ → Write → Contents → Contents

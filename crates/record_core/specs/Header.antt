@@ -1,6 +1,7 @@
 -- A record's header: 24 bytes, numbers with the lowest byte first.
 use Rattle.std.specs.Prelude.{◌≡◌, ◌⊎◌, ℕ, ◌≤◌, List, ◌++◌, codes, slice_range}
 use Rattle.std.specs.Int.{w16, w32, to_le_bytes}
+use Rattle.kv_model.specs.declared.limits.TheConstants.{MAX_VALUE}
 use Rattle.kv_model.specs.Flags.{remove_flags}
 use Rattle.record_core.specs.declared.header.Header.{Header}
 
@@ -18,7 +19,7 @@ pub record IsHeader (flags key_size value_size : ℕ) : Type 0 where
   pub kind : (flags ≡ 0) ⊎ (flags ≡ 1) ⊎ (flags ≡ remove_flags)
   pub key_least : 1 ≤ key_size
   pub key_most : key_size ≤ 128
-  pub value_most : value_size ≤ 65592
+  pub value_most : value_size ≤ MAX_VALUE
   pub remove_is_empty : flags ≡ remove_flags → value_size ≡ 0
 
 -- the sizes and flags of a header that was read

@@ -1,9 +1,10 @@
 -- What a look-up at a place gives, whatever bytes stand there: each answer is that of the bytes that were read.
 use Rattle.std.specs.Prelude.{◌≡◌, ◌⊎◌, ℕ, ◌+◌, ◌-◌, ◌<◌, ◌≤◌, ◌^◌, List, length, slice_range, IsTrue, Result, MatchResult}
 use Rattle.std.specs.Int.{w32, from_le_bytes}
+use Rattle.std.specs.Option.{ForSome}
 use Rattle.base_core.specs.Counts.{Rose}
 use Rattle.flash_core.specs.Images.{part}
-use Rattle.flash_core.specs.State.{FlashState, IfTold}
+use Rattle.flash_core.specs.State.{FlashState}
 use Rattle.kv_model.specs.declared.error.KvError.{KvError}
 use Rattle.kv_model.specs.declared.error.KvError.TheVariants.{Corrupt, ReadFault}
 use Rattle.kv_model.specs.Crc.{crc_from}
@@ -22,7 +23,7 @@ pub record IsReadFault (old new : FlashState) (e : KvError) : Type 0 where
 -- The n bytes that were read from this place on: those of the image, where it is told.
 pub record IsSeen (s : FlashState) (place n : ℕ) (bytes : List ℕ) : Type 0 where
   pub long : length bytes ≡ n
-  pub told : IfTold s.image (λ image. bytes ≡ part image place n)
+  pub told : ForSome s.image (λ image. bytes ≡ part image place n)
 
 -- The CRC of the n bytes that were read from this place on, behind what gave this start.
 pub record IsCrcOf (s : FlashState) (place n start sum : ℕ) : Type 0 where

@@ -1,7 +1,7 @@
 -- What is read of records on a device.
-use Rattle.std.specs.Prelude.{◌≡◌, ℕ, ◌+◌, ◌-◌, ◌<◌, ◌≤◌, List, ◌++◌, length, replicate, IsTrue, Option, Some, None, Result, IsOk, IfErr}
+use Rattle.std.specs.Prelude.{◌≡◌, ℕ, ◌+◌, ◌-◌, ◌<◌, ◌≤◌, List, ◌++◌, length, replicate, IsTrue, Option, Some, None, Result, IsOk, IfErr, OnOk}
 use Rattle.base_core.specs.Counts.{Rose}
-use Rattle.flash_core.specs.Calls.{OnlyReads}
+use Rattle.flash_core.specs.Calls.{CountsStand, OnlyReads}
 use Rattle.flash_core.specs.Images.{part}
 use Rattle.flash_core.specs.State.{FlashState}
 use Rattle.kv_model.specs.declared.error.KvError.{KvError}
@@ -20,6 +20,7 @@ pub record HasRead {T : Type 0} (old new : FlashState) (result : Result T KvErro
   pub kept : OnlyReads old new
   pub steady : IsTrue old.steady → IsOk result
   pub cause : IfErr result (λ e. (e ≡ ReadFault) × Rose old.read_faults new.read_faults)
+  pub counts : OnOk result (CountsStand old new)
 
 -- A header that a record may have which stands at this place and ends at or before this end, and its key's size.
 pub record IsFitting (prog place end : ℕ) (key : List ℕ) (header : Header) : Type 0 where

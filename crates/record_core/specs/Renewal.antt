@@ -1,6 +1,6 @@
 -- An area that isn't active is made new: it is erased and filled, and its master record's header comes last. A format
 -- does so, and a collection.
-use Rattle.std.specs.Prelude.{◌≡◌, ◌⊎◌, ℕ, ◌+◌, ◌-◌, ◌≤◌, List, length, replicate, Option, None}
+use Rattle.std.specs.Prelude.{◌≡◌, ◌⊎◌, ℕ, ◌+◌, ◌-◌, ◌≤◌, List, length, replicate, slice_index, Option, Some, None}
 use Rattle.base_core.specs.Units.{up}
 use Rattle.flash_core.specs.declared.geometry.Geometry.{Geometry}
 use Rattle.flash_core.specs.Calls.{IsMomentWithin}
@@ -9,7 +9,8 @@ use Rattle.flash_core.specs.Images.{Torn, put}
 use Rattle.flash_core.specs.Moments.{Within}
 use Rattle.flash_core.specs.Sizes.{area_size}
 use Rattle.flash_core.specs.State.{DeviceCall}
-use Rattle.record_core.specs.Cuts.{base_of}
+use Rattle.record_core.specs.Cuts.{active_of, base_of, with_version}
+use Rattle.record_core.specs.Mounts.{Contents, Holds}
 
 -- the place behind the header of an area's master record, by the area's number
 abbrev pub behind_header : Geometry → ℕ → ℕ
@@ -48,3 +49,18 @@ RenewsArea g k W image call now = FillsArea g k image call now ⊎ HeaderLast g 
 -- a moment of the write of its master record alone, where it was filled before: the payload, and then the header
 abbrev pub CompletesArea : Geometry → ℕ → (List ℕ → Type 0) → List ℕ → Option DeviceCall → List ℕ → Type 0
 CompletesArea g k W image call now = BehindHeader g k image call now ⊎ HeaderLast g k W image call now
+
+-- The area of this number is not the active one of an image that holds these contents.
+pub record IsSpare (g : Geometry) (image : List ℕ) (c : Contents) (k : ℕ) : Type 0 where
+  pub holds : Holds g image c
+  pub number : (k ≡ 0) ⊎ (k ≡ 1)
+  pub spare : active_of c ≡ Some k → ⊥
+
+-- nor does a master record begin it, since its first byte is erased
+pub record IsBlank (g : Geometry) (image : List ℕ) (c : Contents) (k : ℕ) : Type 0 where
+  pub spare : IsSpare g image c k
+  pub erased : slice_index image (base_of g k) ≡ 255
+
+-- the image holds these contents still, with the master record of that area or without
+abbrev pub HoldsStill : Geometry → Contents → ℕ → List ℕ → Type 0
+HoldsStill g c k image = Holds g image c ⊎ Holds g image (with_version k None c)

@@ -7,7 +7,7 @@ ghost use Rattle.record_core.specs.declared.header.Header.{Header};
 
 use crate::checksum::{CRC_START, crc};
 use byteorder::{ByteOrder, LittleEndian};
-use kv_model::Key;
+use kv_model::{Key, MAX_VALUE};
 
 const MAGIC: &[u8; 4] = b"KVR1";
 
@@ -20,8 +20,6 @@ const FRONT_SIZE: usize = 20;
 const REVISION: u16 = 1;
 
 const MAX_KEY_SIZE: u16 = 128;
-
-const MAX_VALUE_SIZE: u32 = 65_592;
 
 const WRITE_ONCE: u32 = 1;
 
@@ -50,7 +48,7 @@ impl Header {
         let is_kind = self.flags == 0 || self.flags == WRITE_ONCE || self.flags == REMOVE;
         let has_sizes = self.key_size >= 1
             && self.key_size <= MAX_KEY_SIZE
-            && self.value_size <= MAX_VALUE_SIZE;
+            && self.value_size <= MAX_VALUE;
         is_kind && has_sizes && (self.flags != REMOVE || self.value_size == 0)
     }
 

@@ -25,8 +25,9 @@ mod writer;
 pub use checksum::{CRC_START, crc, hash_of};
 pub use cuts::{
     chance_or_first_break, contents_survive_elsewhere, erased_area_stays_unseen,
-    every_image_mounts, record_write_is_whole_or_unseen, torn_header_is_whole_or_unseen,
-    torn_master_is_whole_or_unseen,
+    every_image_mounts, format_stays_empty, master_write_is_whole_or_unseen,
+    record_write_is_whole_or_unseen, renewed_area_is_whole_or_unseen,
+    torn_header_is_whole_or_unseen, torn_master_is_whole_or_unseen, writes_leave_one_of_two_maps,
 };
 pub use header::{HEADER_SIZE, Header, REMOVE, crc_of_front, read_header, write_header};
 pub use laws::{
@@ -34,7 +35,7 @@ pub use laws::{
     records_are_unambiguous, records_go_on, records_stand_where_programmed,
 };
 pub use lookup::{broken_header, read_header_at, read_key_at};
-pub use range::{crc_of_piece, crc_of_range, read_part};
+pub use range::{crc_of_piece, crc_of_range, is_erased_range, read_part};
 pub use reader::{read_master, read_record};
 pub use size::{padded_size, size_of_record};
 pub use writer::{write_master, write_record};

@@ -3,9 +3,11 @@
 ghost use Rattle.std.specs.Prelude.{◌≡◌, ◌⊎◌, ◌+◌, ◌-◌, ◌≤◌, ℕ, List, length, IsTrue, IfOk, IfErr, MatchOption, MatchResult};
 ghost use Rattle.std.specs.Int.{is_power_of_two};
 ghost use Rattle.flash_core.specs.Calls.{OnlyReads};
+ghost use Rattle.flash_core.specs.Runs.{IsCounted};
 ghost use Rattle.flash_core.specs.Sizes.{IsValid, size_of};
 ghost use Rattle.kv_model.specs.Keys.{is_key};
 ghost use Rattle.record_core.specs.declared.header.Header.{Header};
+ghost use Rattle.record_core.specs.Endings.{kv_ended};
 ghost use Rattle.record_core.specs.Lookup.{HeadBroken, IsHead, IsReadFault, IsSeen, ReadsHeader, ReadsKey, broken_answer};
 ghost use Rattle.record_core.specs.Reading.{HasRead};
 
@@ -54,6 +56,7 @@ fn read_head_at<F: Flash>(flash: &mut F, place: u32, end: u32) -> Result<Head, K
     requires header { place + 24 ≤ end }
     requires inside { end ≤ size_of (F.state flash.old).geometry }
     ensures reads { OnlyReads (F.state flash.old) (F.state flash.new) }
+    ensures counts { IsCounted (F.state flash.old) (F.state flash.new) (kv_ended result) }
     ensures seen { IfOk result (λ head. IsSeen (F.state flash.old) place 24 head.bytes) }
     ensures head { IfOk result (λ head.
         IsHead (F.state flash.old).geometry.prog (end - place) head.bytes head.header) }
@@ -77,6 +80,7 @@ pub fn read_header_at<F: Flash>(flash: &mut F, place: u32, end: u32) -> Result<H
     requires header { place + 24 ≤ end }
     requires inside { end ≤ size_of (F.state flash.old).geometry }
     ensures reads { OnlyReads (F.state flash.old) (F.state flash.new) }
+    ensures counts { IsCounted (F.state flash.old) (F.state flash.new) (kv_ended result) }
     ensures answer { ReadsHeader (F.state flash.old) (F.state flash.new) place (end - place)
         result }
 {
@@ -111,6 +115,7 @@ pub fn read_key_at<F: Flash>(flash: &mut F, place: u32, end: u32) -> Result<Key,
     requires header { place + 24 ≤ end }
     requires inside { end ≤ size_of (F.state flash.old).geometry }
     ensures reads { OnlyReads (F.state flash.old) (F.state flash.new) }
+    ensures counts { IsCounted (F.state flash.old) (F.state flash.new) (kv_ended result) }
     ensures answer { ReadsKey (F.state flash.old) (F.state flash.new) place (end - place) result }
 {
     let head = read_head_at(flash, place, end)?;

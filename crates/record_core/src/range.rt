@@ -1,8 +1,8 @@
 //! Ranges of a device, read a piece at a time.
-ghost use Rattle.std.specs.Prelude.{◌≡◌, ◌↔◌, ◌+◌, ◌≤◌, length, replicate, IsTrue, IfOk, OnOk};
-ghost use Rattle.flash_core.specs.Images.{part};
+ghost use Rattle.std.specs.Prelude.{◌≡◌, ◌↔◌, ◌+◌, ◌≤◌, length, slice_index, EachIndex, IsTrue, IfOk, OnOk};
+ghost use Rattle.std.specs.Option.{ForSome};
+ghost use Rattle.flash_core.specs.Images.{IsErased, part};
 ghost use Rattle.flash_core.specs.Sizes.{size_of};
-ghost use Rattle.flash_core.specs.State.{IfTold};
 ghost use Rattle.kv_model.specs.Crc.{crc_from};
 ghost use Rattle.record_core.specs.Lookup.{IsCrcOf};
 ghost use Rattle.record_core.specs.Reading.{HasRead};
@@ -18,7 +18,7 @@ const ERASED: u8 = 0xFF;
 pub fn read_part<F: Flash>(flash: &mut F, place: u32, buf: &mut [u8]) -> Result<(), KvError>
     requires { place + length buf.old ≤ size_of (F.state flash.old).geometry }
     ensures reads { HasRead (F.state flash.old) (F.state flash.new) result }
-    ensures bytes { IfTold (F.state flash.old).image
+    ensures bytes { ForSome (F.state flash.old).image
         (λ image. OnOk result (buf.new ≡ part image place (length buf.old))) }
 {
     match flash.read(place, buf) {
@@ -37,7 +37,7 @@ pub fn crc_of_piece<F: Flash>(
 ) -> Result<u32, KvError>
     requires { place + length piece.old ≤ size_of (F.state flash.old).geometry }
     ensures reads { HasRead (F.state flash.old) (F.state flash.new) result }
-    ensures bytes { IfTold (F.state flash.old).image
+    ensures bytes { ForSome (F.state flash.old).image
         (λ image. OnOk result (piece.new ≡ part image place (length piece.old))) }
     ensures sum { IfOk result (λ sum. sum ≡ crc_from start piece.new) }
 {
@@ -72,25 +72,46 @@ pub fn crc_of_range<F: Flash>(
 }
 
 fn are_erased(bytes: &[u8]) -> bool
-    ensures { IsTrue result ↔ (bytes.now ≡ replicate (length bytes.now) 255) }
+    ensures { IsTrue result ↔ EachIndex bytes.now (λ k. slice_index bytes.now k ≡ 255) }
 {
     bytes.iter().all(|byte| *byte == ERASED)
 }
 
-/// Whether as many bytes as `buf` has are 0xFF from `place` on. Where it has none, nothing is read.
-pub(crate) fn is_padding<F: Flash>(
+// Whether as many bytes as `piece` has are 0xFF from `place` on.
+fn is_erased_piece<F: Flash>(flash: &mut F, place: u32, piece: &mut [u8]) -> Result<bool, KvError>
+    requires { place + length piece.old ≤ size_of (F.state flash.old).geometry }
+    ensures reads { HasRead (F.state flash.old) (F.state flash.new) result }
+    ensures erased { ForSome (F.state flash.old).image (λ image. IfOk result (λ is_erased.
+        IsTrue is_erased ↔ IsErased image place (length piece.old))) }
+{
+    read_part(flash, place, piece)?;
+    Ok(are_erased(piece))
+}
+
+/// Whether each of the `size` bytes from `place` on is 0xFF, read in pieces that `work` has room
+/// for, up to the first piece that has another byte. `ReadFault` comes only where the device's
+/// count of read faults rose.
+pub fn is_erased_range<F: Flash>(
     flash: &mut F,
     place: u32,
-    buf: &mut [u8],
+    size: u32,
+    work: &mut [u8],
 ) -> Result<bool, KvError>
-    requires { place + length buf.old ≤ size_of (F.state flash.old).geometry }
+    requires inside { place + size ≤ size_of (F.state flash.old).geometry }
+    requires limit { size_of (F.state flash.old).geometry ≤ 16777216 }
+    requires some { 1 ≤ length work.old }
     ensures reads { HasRead (F.state flash.old) (F.state flash.new) result }
-    ensures padding { IfTold (F.state flash.old).image (λ image. IfOk result (λ is_padding.
-        IsTrue is_padding ↔ (part image place (length buf.old) ≡ replicate (length buf.old) 255))) }
+    ensures erased { ForSome (F.state flash.old).image (λ image. IfOk result (λ is_erased.
+        IsTrue is_erased ↔ IsErased image place size)) }
 {
-    if buf.is_empty() {
-        return Ok(true);
+    let most = work.len().min(size as usize) as u32;
+    let mut done = 0;
+    while done < size {
+        let count = most.min(size - done);
+        if !is_erased_piece(flash, place + done, &mut work[..count as usize])? {
+            return Ok(false);
+        }
+        done += count;
     }
-    read_part(flash, place, buf)?;
-    Ok(are_erased(buf))
+    Ok(true)
 }

@@ -1,9 +1,9 @@
 //! Records and master records read from a device, whatever bytes stand there.
 ghost use Rattle.std.specs.Prelude.{◌≡◌, ◌↔◌, ◌+◌, ◌-◌, ◌<◌, ◌≤◌, ◌^◌, ◌++◌, ℕ, length, replicate, IsTrue, IfOk, IfSome, IsNone, MatchOption, Some};
 ghost use Rattle.std.specs.Int.{is_power_of_two};
+ghost use Rattle.std.specs.Option.{ForSome};
 ghost use Rattle.flash_core.specs.Images.{part};
 ghost use Rattle.flash_core.specs.Sizes.{IsValid, size_of};
-ghost use Rattle.flash_core.specs.State.{IfTold};
 ghost use Rattle.kv_model.specs.Crc.{crc_of};
 ghost use Rattle.kv_model.specs.Keys.{is_key, master_key};
 ghost use Rattle.base_core.specs.Units.{up};
@@ -15,7 +15,7 @@ ghost use Rattle.record_core.specs.Reading.{HasNoRecord, HasRead, IsFitting, IsP
 ghost use Rattle.record_core.specs.Record.{header_of, master_value};
 ghost use Rattle.record_core.specs.Written.{IsArea};
 
-use crate::range::{crc_of_range, is_padding, read_part};
+use crate::range::{crc_of_range, is_erased_range, read_part};
 use crate::writer::{MASTER_KEY, Payload, header_for, value_of_master};
 use crate::{HEADER_SIZE, Header, crc, crc_of_front, padded_size, read_header, size_of_record};
 use flash_core::Flash;
@@ -38,12 +38,12 @@ fn is_padded_to_units<F: Flash>(
     requires limit { size_of (F.state flash.old).geometry ≤ 16777216 }
     requires most { prog ≤ 4096 }
     ensures reads { HasRead (F.state flash.old) (F.state flash.new) result }
-    ensures padded { IfTold (F.state flash.old).image (λ image. IfOk result (λ is_padded.
+    ensures padded { ForSome (F.state flash.old).image (λ image. IfOk result (λ is_padded.
         IsTrue is_padded ↔ (part image (place + size) (up prog size - size)
         ≡ replicate (up prog size - size) 255))) }
 {
     let padding = padded_size(prog, size) - size;
-    is_padding(flash, place + size, &mut work[..padding as usize])
+    is_erased_range(flash, place + size, padding, work)
 }
 
 // Whether both paddings of a record whose payload has `size` bytes are 0xFF.
@@ -59,7 +59,7 @@ fn is_padded<F: Flash>(
         (F.state flash.old).geometry.prog size)
         ≤ size_of (F.state flash.old).geometry }
     ensures reads { HasRead (F.state flash.old) (F.state flash.new) result }
-    ensures padded { IfTold (F.state flash.old).image (λ image. IfOk result (λ is_padded.
+    ensures padded { ForSome (F.state flash.old).image (λ image. IfOk result (λ is_padded.
         IsTrue is_padded ↔ IsPadded (F.state flash.old).geometry.prog image place size)) }
 {
     let prog = flash.geometry().prog;
@@ -99,7 +99,7 @@ fn read_head<F: Flash>(flash: &mut F, place: u32, end: u32) -> Result<Option<Hea
     ensures inside { IfOk result (λ found. IfSome found (λ header.
         place + record_size (F.state flash.old).geometry.prog header.key_size header.value_size
         ≤ end)) }
-    ensures found { IfTold (F.state flash.old).image (λ image. IfOk result (λ found.
+    ensures found { ForSome (F.state flash.old).image (λ image. IfOk result (λ found.
         MatchOption found (HasNoRecord (F.state flash.old).geometry.prog image place end)
         (λ header. part image place 24 ≡ header_bytes header))) }
 {
@@ -118,7 +118,7 @@ fn read_key<F: Flash>(flash: &mut F, place: u32, size: u16) -> Result<Option<Key
     requires inside { place + size ≤ size_of (F.state flash.old).geometry }
     ensures reads { HasRead (F.state flash.old) (F.state flash.new) result }
     ensures size { IfOk result (λ found. IfSome found (λ key. length key ≡ size)) }
-    ensures found { IfTold (F.state flash.old).image (λ image. IfOk result (λ found.
+    ensures found { ForSome (F.state flash.old).image (λ image. IfOk result (λ found.
         MatchOption found (IsTrue (is_key (part image place size)) → ⊥)
         (λ key. key ≡ part image place size))) }
     ensures key { IfOk result (λ found. IfSome found (λ key. IsTrue (is_key key))) }
@@ -144,7 +144,7 @@ fn crc_of_record<F: Flash>(
     requires limit { size_of (F.state flash.old).geometry ≤ 16777216 }
     requires some { 1 ≤ length work.old }
     ensures reads { HasRead (F.state flash.old) (F.state flash.new) result }
-    ensures sum { IfTold (F.state flash.old).image (λ image. IfOk result (λ sum.
+    ensures sum { ForSome (F.state flash.old).image (λ image. IfOk result (λ sum.
         sum ≡ crc_of (header_front header.now.flags header.now.key_size header.now.value_size
         ++ key.now
         ++ part image place header.now.value_size))) }
@@ -167,10 +167,10 @@ fn is_whole<F: Flash>(
     requires header { IsFitting (F.state flash.old).geometry.prog place
         (size_of (F.state flash.old).geometry) key.now header.now }
     ensures reads { HasRead (F.state flash.old) (F.state flash.new) result }
-    ensures whole { IfTold (F.state flash.old).image (λ image. IfOk result (λ is_whole.
+    ensures whole { ForSome (F.state flash.old).image (λ image. IfOk result (λ is_whole.
         IsTrue is_whole ↔ IsWhole (F.state flash.old).geometry.prog image place key.now
         header.now)) }
-    ensures fits { IfTold (F.state flash.old).image (λ image. IfOk result (λ is_whole.
+    ensures fits { ForSome (F.state flash.old).image (λ image. IfOk result (λ is_whole.
         crc_read (F.state flash.old).geometry.prog image place key.now header.now < 2 ^ 32)) }
 {
     let payload = place + padded_size(flash.geometry().prog, HEADER_SIZE);
@@ -202,7 +202,7 @@ pub fn read_record<F: Flash>(
     requires to { end ≤ size_of (F.state flash.old).geometry }
 
     ensures reads { HasRead (F.state flash.old) (F.state flash.new) result }
-    ensures found { IfTold (F.state flash.old).image (λ image. IfOk result (λ found.
+    ensures found { ForSome (F.state flash.old).image (λ image. IfOk result (λ found.
         RecordAt (F.state flash.old).geometry.prog image place end key.new found)) }
     // also where the device tells nothing
     ensures fitting { IfOk result (λ found.
@@ -279,7 +279,7 @@ pub fn read_master<F: Flash>(
     requires least { 64 ≤ length work.old }
 
     ensures reads { HasRead (F.state flash.old) (F.state flash.new) result }
-    ensures found { IfTold (F.state flash.old).image
+    ensures found { ForSome (F.state flash.old).image
         (λ image. IfOk result (MasterAt (F.state flash.old).geometry.prog image area)) }
 {
     let behind = area + padded_size(flash.geometry().prog, HEADER_SIZE);

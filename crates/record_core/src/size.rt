@@ -1,6 +1,7 @@
 //! How many bytes records take.
 ghost use Rattle.std.specs.Prelude.{◌≡◌, ◌+◌, ◌<◌, ◌≤◌, ◌^◌, IsTrue};
 ghost use Rattle.std.specs.Int.{is_power_of_two};
+ghost use Rattle.kv_model.specs.declared.limits.TheConstants.{MAX_VALUE};
 ghost use Rattle.base_core.specs.Units.{up};
 ghost use Rattle.base_core.specs.Sizes.{record_size};
 
@@ -21,7 +22,7 @@ pub fn size_of_record(prog: u32, key_size: u32, value_size: u32) -> u32
     requires prog_most { prog ≤ 4096 }
     requires key_least { 1 ≤ key_size }
     requires key_most { key_size ≤ 128 }
-    requires value_most { value_size ≤ 65592 }
+    requires value_most { value_size ≤ MAX_VALUE }
     ensures { result ≡ record_size prog key_size value_size }
 {
     padded_size(prog, 24) + padded_size(prog, key_size + value_size)

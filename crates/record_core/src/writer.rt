@@ -1,10 +1,12 @@
 //! Records written to a device.
 ghost use Rattle.std.specs.Prelude.{◌≡◌, ◌+◌, ◌-◌, ◌≤◌, ◌++◌, replicate, length, IfErr, OnOk, Some};
+ghost use Rattle.std.specs.Option.{ForSome};
 ghost use Rattle.flash_core.specs.Calls.{CanProgram, Writes};
 ghost use Rattle.flash_core.specs.Images.{IsErased, part, put};
 ghost use Rattle.flash_core.specs.Sizes.{IsValid};
-ghost use Rattle.flash_core.specs.State.{IfTold, OnImage};
+ghost use Rattle.flash_core.specs.State.{OnImage};
 ghost use Rattle.kv_model.specs.Keys.{master_key};
+ghost use Rattle.kv_model.specs.declared.limits.TheConstants.{MAX_VALUE};
 ghost use Rattle.base_core.specs.Units.{up};
 ghost use Rattle.base_core.specs.Sizes.{master_size, record_size};
 ghost use Rattle.kv_model.specs.declared.error.KvError.TheVariants.{WriteFault};
@@ -131,7 +133,7 @@ fn program_payload<F: Flash>(
 // The header of a record of this payload.
 pub(crate) fn header_for(flags: u32, payload: &Payload) -> Header
     requires key { length payload.now.key.now ≤ 128 }
-    requires value { length payload.now.value.now ≤ 65592 }
+    requires value { length payload.now.value.now ≤ MAX_VALUE }
     ensures { result ≡ header_of flags payload.now.key.now payload.now.value.now }
 {
     let header = Header {
@@ -239,7 +241,7 @@ pub fn write_master<F: Flash>(
     requires area { IsArea (F.state flash.old).geometry area }
     requires unit { (F.state flash.old).geometry.prog ≤ length work.old }
     requires least { 64 ≤ length work.old }
-    requires erased { IfTold (F.state flash.old).image (λ image.
+    requires erased { ForSome (F.state flash.old).image (λ image.
         IsErased image area (master_size (F.state flash.old).geometry.prog)) }
 
     ensures runs { RunsBy (F.state flash.old) (F.state flash.new)

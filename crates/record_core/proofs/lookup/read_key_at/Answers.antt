@@ -1,10 +1,8 @@
-use Rattle.std.proofs.Common.{◌≡◌, ◌⊎◌, ℕ, ◌+◌, List, IsTrue, sym, ◌∙◌, ap, subst, arith, inl, inr}
-use Rattle.std.specs.Prelude.{Option, None, MatchOption}
+use Rattle.std.proofs.Common.{◌≡◌, ℕ, ◌+◌, ◌∙◌, ap, subst, arith, inr}
 use Rattle.flash_core.specs.declared.geometry.Geometry.{Geometry}
 use Rattle.flash_core.specs.Sizes.{size_of}
 use Rattle.flash_core.proofs.GeometryLaws.{prog_positive}
 use Rattle.flash_core.proofs.KeptLaws.{OnlyReads-trans}
-use Rattle.kv_model.specs.Keys.{is_key}
 use Rattle.base_core.specs.Units.{up}
 use Rattle.base_core.proofs.UnitLemmas.{up-ge}
 use Rattle.record_core.specs.Lookup.{IsSeen}

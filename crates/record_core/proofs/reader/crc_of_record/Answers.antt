@@ -1,11 +1,7 @@
 use Rattle.std.proofs.Common.{◌≡◌, ℕ, List, ◌∙◌, ap}
-use Rattle.std.specs.Prelude.{Result, Ok, Err, IfOk}
 use Rattle.flash_core.specs.Images.{part}
-use Rattle.flash_core.specs.State.{FlashState}
-use Rattle.kv_model.specs.declared.error.KvError.{KvError}
 use Rattle.kv_model.specs.Crc.{crc_from}
 use Rattle.record_core.specs.Header.{header_front}
-use Rattle.record_core.specs.Lookup.{IsCrcOf}
 use Rattle.record_core.proofs.LookupLemmas.{if_told_crc}
 use Rattle.record_core.proofs.ReaderLemmas.{crc_of-pieces}
 use Rattle.record_core.proofs.reader.crc_of_record.Goals as goal

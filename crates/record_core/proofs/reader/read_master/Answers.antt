@@ -5,6 +5,7 @@ use Rattle.flash_core.specs.Images.{part}
 use Rattle.flash_core.specs.Sizes.{size_of}
 use Rattle.flash_core.proofs.GeometryLaws.{prog_positive}
 use Rattle.flash_core.proofs.KeptLaws.{OnlyReads-trans}
+use Rattle.flash_core.proofs.RunLaws.{counts_same}
 use Rattle.base_core.specs.Units.{up}
 use Rattle.base_core.specs.Sizes.{master_size}
 use Rattle.base_core.proofs.UnitLemmas.{up-ge}
@@ -46,7 +47,7 @@ returns-in_err-is_padded-clause-reads g c =
     let first = c.in_ok-read_part.ensures.reads.kept in
     let second = c.in_ok-read_part-2.ensures.reads.kept in
     refused c.from_residual-in_err-is_padded.result c.in_err-is_padded.field-0.0 c.from_residual-in_err-is_padded.ensures.1
-    (after_reads _ (OnlyReads-trans first second) c.in_err-is_padded.ensures.reads)
+    (after_reads _ (OnlyReads-trans first second) (counts_same c.in_ok-read_part.ensures.reads.counts c.in_ok-read_part-2.ensures.reads.counts) c.in_err-is_padded.ensures.reads)
 
 pub returns-then-branch-clause-found : goal.returns-then-branch-clause-found
 returns-then-branch-clause-found g c image told =
@@ -81,6 +82,7 @@ returns-then-branch-clause-reads g c = record {
   kept = OnlyReads-trans c.in_ok-read_part.ensures.reads.kept (OnlyReads-trans c.in_ok-read_part-2.ensures.reads.kept c.in_ok-is_padded.ensures.reads.kept);
   steady = λ steady. refl;
   cause = tt;
+  counts = counts_same c.in_ok-read_part.ensures.reads.counts (counts_same c.in_ok-read_part-2.ensures.reads.counts c.in_ok-is_padded.ensures.reads.counts);
 }
 
 pub returns-else-branch-clause-reads : goal.returns-else-branch-clause-reads
@@ -88,4 +90,5 @@ returns-else-branch-clause-reads g c = record {
   kept = OnlyReads-trans c.in_ok-read_part.ensures.reads.kept (OnlyReads-trans c.in_ok-read_part-2.ensures.reads.kept c.in_ok-is_padded.ensures.reads.kept);
   steady = λ steady. refl;
   cause = tt;
+  counts = counts_same c.in_ok-read_part.ensures.reads.counts (counts_same c.in_ok-read_part-2.ensures.reads.counts c.in_ok-is_padded.ensures.reads.counts);
 }

@@ -1,8 +1,7 @@
-use Rattle.std.proofs.Common.{◌≡◌, ℕ, List, ◌++◌, length, take, sym, ◌∙◌, ap}
+use Rattle.std.proofs.Common.{◌≡◌, ℕ, List, ◌++◌, length, sym, ◌∙◌, ap}
 use Rattle.kv_model.specs.Crc.{crc_from}
 use Rattle.kv_model.proofs.CrcLemmas.{crc_from-append}
 use Rattle.record_core.specs.Header.{header_front}
-use Rattle.record_core.proofs.RecordLemmas.{front_of}
 use Rattle.record_core.proofs.writer.header_for.Goals as goal
 
 pub returns : goal.returns

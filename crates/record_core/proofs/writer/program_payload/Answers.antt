@@ -11,7 +11,7 @@ use Rattle.flash_core.specs.Sizes.{size_of}
 use Rattle.flash_core.proofs.RunLaws.{handed_on}
 use Rattle.record_core.specs.Record.{record_payload}
 use Rattle.record_core.specs.Written.{CanWrite}
-use Rattle.record_core.proofs.WriterLemmas.{Pieces, next_piece, payload_long, payload_step, piece_runs, pieces_more, pieces_none}
+use Rattle.record_core.proofs.WriterLemmas.{next_piece, payload_long, payload_step, piece_runs, pieces_more, pieces_none}
 use Rattle.record_core.proofs.writer.program_payload.Goals as goal
 
 pub loop-done-init : goal.loop-done-init
