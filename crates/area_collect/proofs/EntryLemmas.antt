@@ -197,11 +197,9 @@ module _ {old mid : FlashState} (lawful : IsLawful old) (route : Route) (is_rout
               ∙ ap (λ (l : List ℕ). Some (put image before.end l)) (sym joined);
         }
 
-    -- a record that was not read behind copies
-    pub not_copied_more : (es fs : List Entry) (before now : Copied) (e : KvError) → AreIn route.from fs → HasCopiedMore old mid (record { route = route; entries = es }) before now
-        → IsNotCopied mid (record { route = route; entries = fs }) now.end e → (after : List Entry) → IsNotCopied old (record { route = route; entries = (es ++ fs) ++ after }) before.end e
-    not_copied_more es fs before now e in_area first failed after =
-        let prog : ℕ = old.geometry.prog in
+    -- a record that was not read
+    pub not_copied_since : (end : ℕ) (fs : List Entry) (e : KvError) → AreIn route.from fs → IsNotCopied mid (record { route = route; entries = fs }) end e → IsNotCopied old (record { route = route; entries = fs }) end e
+    not_copied_since end fs e in_area failed =
         let front : List Entry = failed.before in
         let this : Entry = failed.this in
         let all_in : AreIn route.from (front ++ this ∷ failed.after) = subst (AreIn route.from) failed.entries_are in_area in
@@ -210,23 +208,50 @@ module _ {old mid : FlashState} (lawful : IsLawful old) (route : Route) (is_rout
         subst (λ (x : Entry). IsRange route.from x.offset 24) (get_or_append_left front (this ∷ failed.after) no_entry i inside) (all_in i (omega (arith, inside, all_long))) in
         let in_this : IsRange route.from this.offset 24 =
         subst (λ (x : Entry). IsRange route.from x.offset 24) (get_or-append_seam front this failed.after no_entry) (all_in (length front) (omega (arith, all_long))) in
-        let more : AreRead old route now.end front failed.records = all_read_since now.end front failed.records in_front failed.read in
-        let more_at : AreRead old route (end_behind prog before.end first.records) front failed.records = subst (λ (k : ℕ). AreRead old route k front failed.records) first.end_is more in
-        let behind : end_behind mid.geometry.prog now.end failed.records ≡ end_behind prog before.end (first.records ++ failed.records) =
-        ap (λ (g : Geometry). end_behind g.prog now.end failed.records) same ∙ ap (λ (k : ℕ). end_behind prog k failed.records) first.end_is ∙ sym (end-append prog before.end first.records failed.records) in
         record {
-          before = es ++ front;
+          before = front;
           this = this;
-          after = failed.after ++ after;
-          entries_are =
-              ap (λ (l : List Entry). (es ++ l) ++ after) failed.entries_are
-              ∙ ap (λ (l : List Entry). l ++ after) (sym (append_assoc es front (this ∷ failed.after)))
-              ∙ append_assoc (es ++ front) (this ∷ failed.after) after;
-          records = first.records ++ failed.records;
-          read = read-append old route before.end es front first.records failed.records first.read more_at;
-          not_read = subst (λ (k : ℕ). IsNotReadAt old this.offset (room_for route this.offset k) e) behind
-              (not_read_since this.offset (room_for route this.offset (end_behind mid.geometry.prog now.end failed.records)) e in_this (omega arith) failed.not_read);
+          after = failed.after;
+          entries_are = failed.entries_are;
+          records = failed.records;
+          read = all_read_since end front failed.records in_front failed.read;
+          not_read = subst (λ (g : Geometry). IsNotReadAt old this.offset (room_for route this.offset (end_behind g.prog end failed.records)) e) same
+              (not_read_since this.offset (room_for route this.offset (end_behind mid.geometry.prog end failed.records)) e in_this (omega arith) failed.not_read);
         }
+
+    -- the same behind copies
+    pub not_copied_more : (es fs : List Entry) (before now : Copied) (e : KvError) → AreIn route.from fs → HasCopiedMore old mid (record { route = route; entries = es }) before now
+        → IsNotCopied mid (record { route = route; entries = fs }) now.end e → IsNotCopied old (record { route = route; entries = es ++ fs }) before.end e
+    not_copied_more es fs before now e in_area first later =
+        let prog : ℕ = old.geometry.prog in
+        let failed : IsNotCopied old (record { route = route; entries = fs }) now.end e = not_copied_since now.end fs e in_area later in
+        let more : AreRead old route (end_behind prog before.end first.records) failed.before failed.records = subst (λ (k : ℕ). AreRead old route k failed.before failed.records) first.end_is failed.read in
+        let behind : end_behind prog now.end failed.records ≡ end_behind prog before.end (first.records ++ failed.records) =
+        ap (λ (k : ℕ). end_behind prog k failed.records) first.end_is ∙ sym (end-append prog before.end first.records failed.records) in
+        record {
+          before = es ++ failed.before;
+          this = failed.this;
+          after = failed.after;
+          entries_are = ap (λ (l : List Entry). es ++ l) failed.entries_are ∙ sym (append_assoc es failed.before (failed.this ∷ failed.after));
+          records = first.records ++ failed.records;
+          read = read-append old route before.end es failed.before first.records failed.records first.read more;
+          not_read = subst (λ (k : ℕ). IsNotReadAt old failed.this.offset (room_for route failed.this.offset k) e) behind failed.not_read;
+        }
+
+-- a record that was not read among more entries
+pub not_copied_ahead : (s : FlashState) (route : Route) (end : ℕ) (es after all : List Entry) (e : KvError) → es ++ after ≡ all → IsNotCopied s (record { route = route; entries = es }) end e → IsNotCopied s (record { route = route; entries = all }) end e
+not_copied_ahead s route end es after all e all_is failed = record {
+  before = failed.before;
+  this = failed.this;
+  after = failed.after ++ after;
+  entries_are =
+      sym all_is
+      ∙ ap (λ (l : List Entry). l ++ after) failed.entries_are
+      ∙ append_assoc failed.before (failed.this ∷ failed.after) after;
+  records = failed.records;
+  read = failed.read;
+  not_read = failed.not_read;
+}
 
 -- ---- where copies end
 

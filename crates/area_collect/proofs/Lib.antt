@@ -1,3 +1,4 @@
+pub mod CollectLemmas
 pub mod CopyLemmas
 pub mod EntryLemmas
 pub mod PayloadLemmas

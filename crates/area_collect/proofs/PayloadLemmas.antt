@@ -28,10 +28,10 @@ use Rattle.record_core.specs.Lookup.{IsSeen}
 use Rattle.record_core.specs.Reading.{HasRead}
 use Rattle.record_core.specs.Written.{CanWrite}
 use Rattle.record_core.proofs.LookupLemmas.{IsSeen-more}
+use Rattle.record_core.proofs.ReaderLemmas.{has_read_by}
 use Rattle.record_core.proofs.WriterLemmas.{IsStep, next_step}
 use Rattle.flash_core.specs.declared.geometry.Geometry.{Geometry}
 use Rattle.area_collect.specs.Payload.{AreApart, HasCopiedBytes, Piece}
-use mathlib.Core.Bool.{false≢true}
 
 pub some_is : {X : Type 0} (x y : X) → Some x ≡ Some y → x ≡ y
 some_is x y same = cc
@@ -50,12 +50,7 @@ within_none s place n = runs_none s (Within place n) Done tt (λ image told. Tor
 
 -- a read that answered, or failed
 pub read_within : {T : Type 0} {old new : FlashState} (place n : ℕ) (result : Result T KvError) → HasRead old new result → RunsBy old new (Within place n) (kv_ended result)
-read_within {T} {old} {new} place n result read = runs_reads (Within place n) (of_result result read) (λ image told. Torn-refl place n image)
-  where
-    of_result : (r : Result T KvError) → HasRead old new r → ReadsBy old new (kv_ended r)
-    of_result (Ok x) is = record { kept = is.kept; cause = tt }
-    of_result (Err e) is = subst (λ (k : KvError). ReadsBy old new (kv_ending k)) (sym is.cause.0)
-        (record { kept = is.kept; cause = (is.cause.1, λ steady. false≢true (is.steady steady)) })
+read_within place n result read = runs_reads (Within place n) (has_read_by result read) (λ image told. Torn-refl place n image)
 
 -- one program
 pub program_within : {T : Type 0} {old new : FlashState} (place : ℕ) (bytes : List ℕ) (result : Result T FlashFault) → IsLawful old → place + length bytes ≤ size_of old.geometry → Writes old new place bytes result → RunsBy old new (Within place (length bytes)) (ended result)

@@ -4,7 +4,7 @@ ghost use Rattle.flash_core.specs.Images.{IsErased};
 ghost use Rattle.flash_core.specs.Moments.{Within};
 ghost use Rattle.flash_core.specs.Runs.{RunsBy};
 ghost use Rattle.flash_core.specs.Sizes.{IsValid};
-ghost use Rattle.flash_core.specs.State.{IfTold};
+ghost use Rattle.std.specs.Option.{ForSome};
 ghost use Rattle.record_core.specs.Endings.{kv_ended};
 ghost use Rattle.area_log.specs.Areas.{end_of, IsEnd};
 ghost use Rattle.ram_table.specs.Table.{KeepsRoom, entry_at};
@@ -42,7 +42,7 @@ fn copy_entry<F: Flash>(
     requires at { at < length table.now.entries }
     requires room { 1 ≤ spare.old.spare }
     requires end { IsEnd (F.state flash.old).geometry route.to end }
-    requires erased { IfTold (F.state flash.old).image (λ image.
+    requires erased { ForSome (F.state flash.old).image (λ image.
         IsErased image end (end_of route.to - end)) }
     ensures runs { RunsBy (F.state flash.old) (F.state flash.new)
         (Within end (end_of route.to - end)) (kv_ended result) }
@@ -53,7 +53,7 @@ fn copy_entry<F: Flash>(
         (record { end = end; entries = spare.old.entries })
         (record { end = behind; entries = spare.new.entries })) }
     ensures end { IfOk result (IsEnd (F.state flash.old).geometry route.to) }
-    ensures erased { IfOk result (λ behind. IfTold (F.state flash.new).image (λ image.
+    ensures erased { IfOk result (λ behind. ForSome (F.state flash.new).image (λ image.
         IsErased image behind (end_of route.to - behind))) }
     ensures one { IfOk result (λ _. length spare.new.entries ≡ length spare.old.entries + 1) }
     ensures room { length spare.new.entries + spare.new.spare
@@ -88,7 +88,7 @@ pub(crate) fn copy_entries<F: Flash>(
     requires last { last ≤ length table.now.entries }
     requires room { last - first ≤ spare.old.spare }
     requires end { IsEnd (F.state flash.old).geometry route.to end }
-    requires erased { IfTold (F.state flash.old).image (λ image.
+    requires erased { ForSome (F.state flash.old).image (λ image.
         IsErased image end (end_of route.to - end)) }
     ensures runs { RunsBy (F.state flash.old) (F.state flash.new)
         (Within end (end_of route.to - end)) (kv_ended result) }
@@ -99,7 +99,7 @@ pub(crate) fn copy_entries<F: Flash>(
         (record { end = end; entries = spare.old.entries })
         (record { end = behind; entries = spare.new.entries })) }
     ensures end { IfOk result (IsEnd (F.state flash.old).geometry route.to) }
-    ensures erased { IfOk result (λ behind. IfTold (F.state flash.new).image (λ image.
+    ensures erased { IfOk result (λ behind. ForSome (F.state flash.new).image (λ image.
         IsErased image behind (end_of route.to - behind))) }
     ensures room { length spare.new.entries + spare.new.spare
         ≡ length spare.old.entries + spare.old.spare }

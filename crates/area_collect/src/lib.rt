@@ -4,6 +4,9 @@
 //! Places and sizes are in bytes. No call takes memory.
 #![tactic(auto)]
 
+mod collection;
 mod copy;
 mod entries;
 mod payload;
+
+pub use collection::{collect, copy_without};

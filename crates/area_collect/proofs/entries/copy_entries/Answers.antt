@@ -4,8 +4,8 @@ use Rattle.record_core.proofs.EndingLemmas.{handed_error}
 use Rattle.area_log.specs.Areas.{end_of}
 use Rattle.ram_table.specs.declared.table.Entry.{Entry}
 use Rattle.ram_table.specs.Table.{entry_at}
-use Rattle.area_collect.specs.Copies.{HasCopiedMore, IsNotCopied, segment}
-use Rattle.area_collect.proofs.EntryLemmas.{copied_more_records, copied_no_records, end_at, handed_cause, not_copied_more, one_in, same_end, segment_join, segment_more, segment_none}
+use Rattle.area_collect.specs.Copies.{HasCopiedMore, segment}
+use Rattle.area_collect.proofs.EntryLemmas.{copied_more_records, copied_no_records, end_at, handed_cause, not_copied_ahead, not_copied_more, one_in, same_end, segment_join, segment_more, segment_none}
 use Rattle.area_collect.proofs.PayloadLemmas.{within_none, within_then}
 use Rattle.area_collect.proofs.entries.copy_entries.Goals as goal
 
@@ -42,9 +42,9 @@ returns-in_err-behind-clause-cause g c =
     ∙ sym (segment_join all first (at + 1) c.args.last (omega arith) (omega arith)) in
     handed_cause _ c.from_residual.result c.in_err-behind.field-0.0 c.from_residual.ensures.1
     (⊎_elim (λ fault. inl fault)
-    (λ failed. inr (subst (λ (l : List Entry). IsNotCopied old (record { route = c.args.route; entries = l }) c.args.end c.in_err-behind.field-0.0) entries
+    (λ failed. inr (not_copied_ahead old c.args.route c.args.end (segment all first at ++ this ∷ []) (segment all (at + 1) c.args.last) _ c.in_err-behind.field-0.0 entries
     (not_copied_more (g.met.F.Flash.lawful c.args.flash.now) c.args.route c.requires.route c.args.end (end_of c.args.route.to - c.args.end) c.requires.end.inside.from (omega (arith, c.requires.end.inside.to)) so_far.runs c.requires.valid
-    (segment all first at) (this ∷ []) _ _ c.in_err-behind.field-0.0 (one_in c.args.route.from this (c.requires.entries at inside)) so_far.copied failed (segment all (at + 1) c.args.last))))
+    (segment all first at) (this ∷ []) _ _ c.in_err-behind.field-0.0 (one_in c.args.route.from this (c.requires.entries at inside)) so_far.copied failed)))
     c.in_err-behind.ensures.cause)
 
 pub loop-at-preserved : goal.loop-at-preserved
