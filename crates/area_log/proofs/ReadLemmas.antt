@@ -1,5 +1,5 @@
 -- What is read back of a record.
-use Rattle.std.proofs.Common.{◌≡◌, ◌⊎◌, ℕ, ◌+◌, ◌-◌, ◌%◌, ◌^◌, ◌<◌, ◌≤◌, min, List, ◌++◌, length, take, drop, replicate, refl, sym, ◌∙◌, ap, subst, arith, inl, inr, append_assoc, length-append, length-drop}
+use Rattle.std.proofs.Common.{◌≡◌, ◌⊎◌, ℕ, ◌+◌, ◌-◌, ◌%◌, ◌^◌, ◌<◌, ◌≤◌, List, ◌++◌, length, take, drop, replicate, sym, ◌∙◌, ap, subst, arith, inl, inr, append_assoc, length-append, length-drop}
 use Rattle.std.specs.Prelude.{Result, Ok, Err, MatchResult, IfErr, IfOk, Some}
 use Rattle.std.proofs.lemmas.List.{drop-drop, drop-replicate}
 use Rattle.std.proofs.Math.Seq.{drop-append_seam}
@@ -23,7 +23,7 @@ use Rattle.record_core.proofs.HeaderLemmas.{low_bytes}
 use Rattle.record_core.proofs.LogLemmas.{header_at, key_at, value_at}
 use Rattle.record_core.proofs.LookupLemmas.{IsSeen-since, one_head}
 use Rattle.area_log.specs.Checked.{ChecksWrong, GivesChecked, IsTooFar}
-use Rattle.area_log.specs.Reading.{GivesRead, Gives, IsMismatch, IsRead, IsWithin, ReadsValue, filled, sum_of}
+use Rattle.area_log.specs.Reading.{Gives, IsRead, ReadsValue, filled, sum_of}
 
 -- what four bytes of a CRC leave of a record's header
 abbrev pub head_of : Write → Header

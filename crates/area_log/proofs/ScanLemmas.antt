@@ -1,8 +1,11 @@
 -- How a walk over the records of an area goes on.
-use Rattle.std.proofs.Common.{◌≡◌, ℕ, ◌+◌, ◌≤◌, ◌<◌, List, [], ◌∷◌, ◌++◌, refl, sym, ◌∙◌, ap, subst, arith, inl, inr, ⊎_elim}
-use Rattle.std.specs.Prelude.{Option, Some, None, Result, Ok, Err, IfSome, OnOk}
+use Rattle.std.proofs.Common.{◌≡◌, ◌⊎◌, ℕ, ◌+◌, ◌≤◌, ◌<◌, List, [], ◌∷◌, ◌++◌, refl, sym, ◌∙◌, ap, subst, arith, inl, inr, ⊎_elim}
+use Rattle.std.specs.Prelude.{Option, Some, None, Result, Ok, Err, IfSome, IsErrAnd, OnOk}
+use Rattle.base_core.specs.Counts.{counted}
 use Rattle.flash_core.specs.declared.geometry.Geometry.{Geometry}
-use Rattle.flash_core.specs.Calls.{OnlyReads}
+use Rattle.flash_core.specs.Calls.{CountsStand, OnlyReads}
+use Rattle.flash_core.specs.Runs.{IsCounted}
+use Rattle.flash_core.proofs.RunLaws.{IsCounted-then}
 use Rattle.std.proofs.Math.Nat.{zero-mod}
 use Rattle.flash_core.specs.Sizes.{IsValid, area_size}
 use Rattle.flash_core.specs.State.{FlashState}
@@ -11,17 +14,20 @@ use Rattle.flash_core.proofs.GeometryLaws.{area_whole_progs}
 use Rattle.base_core.proofs.CountLemmas.{Rose-since}
 use Rattle.base_core.proofs.UnitLemmas.{IsMultipleOf-add}
 use Rattle.kv_model.specs.declared.error.KvError.{KvError}
+use Rattle.kv_model.specs.declared.error.KvError.TheVariants.{ReadFault}
+use Rattle.record_core.specs.Endings.{kv_ended}
+use Rattle.area_log.proofs.RangeLemmas.{counts_read}
 use Rattle.kv_model.specs.Write.{Write}
 use Rattle.base_core.specs.Units.{up}
 use Rattle.base_core.specs.Sizes.{master_size, record_size}
 use Rattle.base_core.proofs.UnitLemmas.{up-ge, up-multiple}
 use Rattle.record_core.specs.declared.header.Header.{Header}
 use Rattle.record_core.specs.Log.{AreRecords, extent}
-use Rattle.record_core.specs.Reading.{HasNoRecord, HasRecord, IsFitting, RecordAt}
+use Rattle.record_core.specs.Reading.{HasNoRecord, HasRead, HasRecord, IsFitting, RecordAt}
 use Rattle.record_core.proofs.LogLemmas.{AreRecords-append}
 use Rattle.area_log.specs.declared.area.Area.{Area}
 use Rattle.area_log.specs.Areas.{end_of, first_place, IsAreaOf, IsEnd}
-use Rattle.area_log.specs.Listing.{Found, found_at, IsListOf, IsNext, IsRefusal, listed}
+use Rattle.area_log.specs.Listing.{Found, found_at, HandsOn, IsListOf, IsNext, IsRefusal, listed}
 use Rattle.area_log.specs.Reading.{Visits}
 
 -- The records before this place were shown.
@@ -90,9 +96,9 @@ module _ (g : Geometry) (valid : IsValid g) (area : Area) where
 
 -- ---- what reads and visits leave
 
--- reads, and then a call of the visitor
-pub visits_after : {T U : Type 0} {old mid new : FlashState} (e : KvError) → OnlyReads old mid → Visits {T = T} {E = KvError} mid new (Err e) → Visits {T = U} {E = KvError} old new (Err e)
-visits_after e only visit = record {
+-- reads that counted no fault, and then a visit
+pub visits_after : {T : Type 0} {old mid new : FlashState} (result : Result T KvError) → OnlyReads old mid → CountsStand old mid → Visits mid new result → Visits old new result
+visits_after {old = old} {mid = mid} {new = new} result only counts visit = record {
   geometry = visit.geometry ∙ only.geometry;
   image = visit.image ∙ only.image;
   label = visit.label ∙ only.label;
@@ -101,7 +107,8 @@ visits_after e only visit = record {
   torn = visit.torn ∙ only.torn;
   read_faults = omega (arith, only.read_faults, visit.read_faults);
   write_faults = visit.write_faults ∙ only.write_faults;
-  steady = λ steady. tt;
+  counts = IsCounted-then old mid new (kv_ended result) counts visit.counts;
+  steady = λ steady. visit.steady (only.steady steady);
   sound = λ sound. visit.sound (only.sound sound);
   moment = visit.moment ∙ only.moment;
   told = λ t call c. (λ left. (only.told t call c).0 ((visit.told t call c).0 left), λ left. (visit.told t call c).1 ((only.told t call c).1 left));
@@ -112,8 +119,8 @@ when_ok (Ok x) holds = holds
 when_ok (Err e) holds = tt
 
 -- reads alone
-pub visits_reads : {T : Type 0} {old new : FlashState} (result : Result T KvError) → OnlyReads old new → Visits old new result
-visits_reads result only = record {
+pub visits_reads : {T : Type 0} {old new : FlashState} (result : Result T KvError) → OnlyReads old new → IsCounted old new (kv_ended result) → Visits old new result
+visits_reads result only counts = record {
   geometry = only.geometry;
   image = only.image;
   label = only.label;
@@ -122,14 +129,54 @@ visits_reads result only = record {
   torn = only.torn;
   read_faults = only.read_faults;
   write_faults = only.write_faults;
+  counts = counts;
   steady = λ steady. when_ok result (only.steady steady);
   sound = only.sound;
   moment = only.moment;
   told = only.told;
 }
 
+-- a read
+pub visits_read : {T : Type 0} {old new : FlashState} (result : Result T KvError) → HasRead old new result → Visits old new result
+visits_read result read = visits_reads result read.kept (counts_read result read)
+
+-- a visit's refusal that is handed on
+pub visits_handed : {T U : Type 0} {old new : FlashState} (result : Result U KvError) (e : KvError) → IsErrAnd result (λ x. x ≡ e) → Visits {T = T} old new (Err e) → Visits old new result
+visits_handed (Ok x) e is visit = absurd is
+visits_handed {U = U} {old = old} {new = new} (Err x) e is visit = subst (λ (k : KvError). Visits {T = U} old new (Err k)) (sym is) (record {
+  geometry = visit.geometry;
+  image = visit.image;
+  label = visit.label;
+  tells_moments = visit.tells_moments;
+  tells_torn = visit.tells_torn;
+  torn = visit.torn;
+  read_faults = visit.read_faults;
+  write_faults = visit.write_faults;
+  counts = visit.counts;
+  steady = λ steady. tt;
+  sound = visit.sound;
+  moment = visit.moment;
+  told = visit.told;
+})
+
+-- ---- counts of refusals
+
+hands_on : {T : Type 0} (result : Result T KvError) (e : KvError) → IsErrAnd result (λ x. x ≡ e) → (before now : ℕ) → (now ≡ counted before) ⊎ ((now ≡ before) × (e ≡ ReadFault)) → HandsOn before now result
+hands_on (Ok x) e is before now rose = absurd is
+hands_on (Err x) e is before now (inl rose) = inl rose
+hands_on (Err x) e is before now (inr fault) = inr (fault.0, is ∙ fault.1)
+
+module _ {T : Type 0} (result : Result T KvError) (e : KvError) (is : IsErrAnd result (λ x. x ≡ e)) (before mid now : ℕ) (stand : mid ≡ before) where
+  -- the visitor refused
+  pub refusal_handed : now ≡ counted mid → HandsOn before now result
+  refusal_handed rose = hands_on result e is before now (inl (rose ∙ ap counted stand))
+
+  -- a read of the walk failed
+  pub fault_handed : now ≡ mid → e ≡ ReadFault → HandsOn before now result
+  fault_handed same fault = hands_on result e is before now (inr (same ∙ stand, fault))
+
 -- a visit that was answered Ok is made of reads
-pub reads_of : {T : Type 0} {old new : FlashState} (x : T) → Visits {T = T} {E = KvError} old new (Ok x) → OnlyReads old new
+pub reads_of : {T : Type 0} {old new : FlashState} (x : T) → Visits {T = T} old new (Ok x) → OnlyReads old new
 reads_of x visit = record {
   geometry = visit.geometry;
   image = visit.image;

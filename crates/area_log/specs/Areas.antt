@@ -1,7 +1,7 @@
 -- One area of a device, and its ends.
-use Rattle.std.specs.Prelude.{◌≡◌, ℕ, ◌+◌, ◌≤◌}
+use Rattle.std.specs.Prelude.{◌≡◌, ℕ, ◌+◌, ◌≤◌, List, length}
 use Rattle.flash_core.specs.declared.geometry.Geometry.{Geometry}
-use Rattle.flash_core.specs.Sizes.{area_size}
+use Rattle.flash_core.specs.Sizes.{IsValid, area_size}
 use Rattle.base_core.specs.Units.{IsMultipleOf}
 use Rattle.base_core.specs.Sizes.{master_size}
 use Rattle.record_core.specs.Written.{IsArea}
@@ -15,6 +15,13 @@ end_of area = area.base + area.size
 pub record IsAreaOf (g : Geometry) (area : Area) : Type 0 where
   pub base : IsArea g area.base
   pub size : area.size ≡ area_size g
+
+-- An area of a device of a valid geometry, and a buffer of at least 64 bytes and at least a program unit.
+pub record CanWork (g : Geometry) (area : Area) (work : List ℕ) : Type 0 where
+  pub valid : IsValid g
+  pub is_area : IsAreaOf g area
+  pub unit : g.prog ≤ length work
+  pub least : 64 ≤ length work
 
 -- the place of an area's first record, behind the room of its master record
 abbrev pub first_place : Geometry → Area → ℕ

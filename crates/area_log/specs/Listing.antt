@@ -1,9 +1,10 @@
 -- The records of an area as a walk shows them.
-use Rattle.std.specs.Prelude.{◌≡◌, ◌⊎◌, ℕ, ◌+◌, ◌≤◌, List, [], ◌∷◌}
+use Rattle.std.specs.Prelude.{◌≡◌, ◌⊎◌, ℕ, ◌+◌, ◌≤◌, List, [], ◌∷◌, Result, Ok, Err}
+use Rattle.base_core.specs.Counts.{counted}
 use Rattle.flash_core.specs.declared.geometry.Geometry.{Geometry}
 use Rattle.flash_core.specs.State.{FlashState}
 use Rattle.kv_model.specs.declared.error.KvError.{KvError}
-use Rattle.kv_model.specs.declared.error.KvError.TheVariants.{Memory}
+use Rattle.kv_model.specs.declared.error.KvError.TheVariants.{Memory, ReadFault}
 use Rattle.kv_model.specs.Write.{Write}
 use Rattle.record_core.specs.declared.header.Header.{Header}
 use Rattle.record_core.specs.Lookup.{IsReadFault}
@@ -46,3 +47,14 @@ pub record IsNext (g : Geometry) (image : List ℕ) (area : Area) (found : Found
 -- A visitor's refusal: a fault of a read, or memory that was wanting.
 abbrev pub IsRefusal : FlashState → FlashState → Type 0 → KvError → Type 0
 IsRefusal old new ran_out e = IsReadFault old new e ⊎ ((e ≡ Memory) × ran_out)
+
+-- A visitor's count of refusals by its answer: Ok leaves it, and a refusal raises it by one.
+abbrev pub CountsRefusals : {T : Type 0} → ℕ → ℕ → Result T KvError → Type 0
+CountsRefusals before now (Ok x) = now ≡ before
+CountsRefusals before now (Err e) = now ≡ counted before
+
+-- The same by the answer of a walk: behind Ok the visitor never refused, and behind a refusal it did, unless it was the
+-- walk's own read that failed.
+abbrev pub HandsOn : {T : Type 0} → ℕ → ℕ → Result T KvError → Type 0
+HandsOn before now (Ok x) = now ≡ before
+HandsOn before now (Err e) = (now ≡ counted before) ⊎ ((now ≡ before) × (e ≡ ReadFault))

@@ -2,14 +2,17 @@
 use Rattle.std.specs.Prelude.{◌≡◌, ◌≢◌, ◌⊎◌, ℕ, ◌+◌, ◌-◌, ◌≤◌, ◌<◌, ◌^◌, ◌↔◌, min, List, ◌++◌, length, replicate, IsTrue, Option, OnOk, Result, MatchResult}
 use Rattle.flash_core.specs.declared.geometry.Geometry.{Geometry}
 use Rattle.flash_core.specs.Images.{part}
+use Rattle.flash_core.specs.Runs.{IsCounted}
 use Rattle.flash_core.specs.State.{DeviceCall, FlashState}
 use Rattle.kv_model.specs.declared.error.KvError.{KvError}
 use Rattle.kv_model.specs.declared.error.KvError.TheVariants.{Corrupt, InvalidSize}
 use Rattle.kv_model.specs.declared.call.Got.{Got}
+use Rattle.kv_model.specs.declared.limits.TheConstants.{MAX_VALUE}
 use Rattle.kv_model.specs.Crc.{crc_of}
 use Rattle.kv_model.specs.Write.{Write}
 use Rattle.base_core.specs.Units.{up}
 use Rattle.record_core.specs.declared.header.Header.{Header}
+use Rattle.record_core.specs.Endings.{kv_ended}
 use Rattle.record_core.specs.Header.{header_front}
 use Rattle.record_core.specs.Log.{IsRecordAt, extent}
 use Rattle.record_core.specs.Lookup.{HeadBroken, HeadSeen, IsReadFault, IsSeen}
@@ -30,7 +33,7 @@ filled room bytes = bytes ++ replicate (room - length bytes) 0
 pub record IsWithin (offset room : ℕ) (got : Got) : Type 0 where
   pub in_value : offset ≤ got.size
   pub read : got.read ≡ min (got.size - offset) room
-  pub size_most : got.size ≤ 65592
+  pub size_most : got.size ≤ MAX_VALUE
 
 -- The flags and the size of the whole value were given, and at the front of the buffer its bytes from the offset on.
 pub record Gives (r : Write) (offset : ℕ) (buf : List ℕ) (got : Got) : Type 0 where
@@ -86,9 +89,9 @@ IsNotRead old new place room offset e =
 abbrev pub ReadsValue : FlashState → FlashState → ℕ → ℕ → ℕ → List ℕ → Result Got KvError → Type 0
 ReadsValue old new place room offset buf result = MatchResult result (GivesRead old place room offset buf) (IsNotRead old new place room offset)
 
--- Nothing has changed but the count of read faults and whether the device is steady and sound. A sound device stays
--- sound, and a steady one steady behind Ok.
-pub record Visits {T E : Type 0} (old new : FlashState) (result : Result T E) : Type 0 where
+-- Nothing has changed but the count of read faults, which rises only where a read failed, and whether the device is
+-- steady and sound. A sound device stays sound, and a steady one steady behind Ok.
+pub record Visits {T : Type 0} (old new : FlashState) (result : Result T KvError) : Type 0 where
   pub geometry : new.geometry ≡ old.geometry
   pub image : new.image ≡ old.image
   pub label : new.label ≡ old.label
@@ -97,6 +100,7 @@ pub record Visits {T E : Type 0} (old new : FlashState) (result : Result T E) : 
   pub torn : new.torn ≡ old.torn
   pub read_faults : old.read_faults ≤ new.read_faults
   pub write_faults : new.write_faults ≡ old.write_faults
+  pub counts : IsCounted old new (kv_ended result)
   pub steady : IsTrue old.steady → OnOk result (IsTrue new.steady)
   pub sound : IsTrue old.sound → IsTrue new.sound
   pub moment : new.moment ≡ old.moment

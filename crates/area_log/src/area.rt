@@ -1,12 +1,13 @@
 // An area, what is appended to it, and its tail.
 ghost use Rattle.std.specs.Prelude.{◌≡◌, ◌↔◌, ◌+◌, ◌-◌, ◌≤◌, length, IsTrue, IfOk, IfErr, Some};
+ghost use Rattle.std.specs.Option.{ForSome};
 ghost use Rattle.base_core.specs.Sizes.{record_size};
 ghost use Rattle.base_core.specs.Units.{IsMultipleOf};
 ghost use Rattle.flash_core.specs.Images.{IsErased, put};
 ghost use Rattle.flash_core.specs.Moments.{Within};
 ghost use Rattle.flash_core.specs.Runs.{RunsBy};
 ghost use Rattle.flash_core.specs.Sizes.{IsValid};
-ghost use Rattle.flash_core.specs.State.{IfTold, OnImage};
+ghost use Rattle.flash_core.specs.State.{OnImage};
 ghost use Rattle.kv_model.specs.declared.error.KvError.TheVariants.{WriteFault};
 ghost use Rattle.record_core.specs.Endings.{kv_ended};
 ghost use Rattle.record_core.specs.Header.{IsHeader};
@@ -14,10 +15,9 @@ ghost use Rattle.record_core.specs.Log.{spelling_of};
 ghost use Rattle.record_core.specs.Reading.{HasRead};
 ghost use Rattle.record_core.specs.Written.{AppendsRecord};
 
-use crate::range::is_erased_range;
 use flash_core::Flash;
 use kv_model::{Key, KvError};
-use record_core::{size_of_record, write_record};
+use record_core::{is_erased_range, size_of_record, write_record};
 
 /// One of the two areas of a device.
 #[derive(Clone, Copy, Debug, PartialEq, Eq)]
@@ -29,7 +29,7 @@ pub struct Area {
 }
 
 impl Area {
-    ghost use Rattle.area_log.specs.Areas.{end_of, IsAreaOf, IsIn, IsRange};
+    ghost use Rattle.area_log.specs.Areas.{CanWork, end_of, IsIn, IsRange};
 
     /// Programs a record from `at` on, a multiple of the program unit: the key and the value, and
     /// then the header. The answer is the place behind the record. `WriteFault` comes only where
@@ -49,15 +49,12 @@ impl Area {
         flags: u32,
         work: &mut [u8],
     ) -> Result<u32, KvError>
-        requires valid { IsValid (F.state flash.old).geometry }
-        requires area { IsAreaOf (F.state flash.old).geometry self.now }
-        requires unit { (F.state flash.old).geometry.prog ≤ length work.old }
-        requires least { 64 ≤ length work.old }
+        requires can { CanWork (F.state flash.old).geometry self.now work.old }
         requires header { IsHeader flags (length key.now) (length value.now) }
         requires aligned { IsMultipleOf (F.state flash.old).geometry.prog at }
         requires inside { IsRange self.now at
             (record_size (F.state flash.old).geometry.prog (length key.now) (length value.now)) }
-        requires erased { IfTold (F.state flash.old).image (λ image. IsErased image at
+        requires erased { ForSome (F.state flash.old).image (λ image. IsErased image at
             (record_size (F.state flash.old).geometry.prog (length key.now) (length value.now))) }
 
         ensures end { IfOk result (λ end. end ≡ at
@@ -90,14 +87,11 @@ impl Area {
         at: u32,
         work: &mut [u8],
     ) -> Result<bool, KvError>
-        requires valid { IsValid (F.state flash.old).geometry }
-        requires area { IsAreaOf (F.state flash.old).geometry self.now }
-        requires unit { (F.state flash.old).geometry.prog ≤ length work.old }
-        requires least { 64 ≤ length work.old }
+        requires can { CanWork (F.state flash.old).geometry self.now work.old }
         requires inside { IsIn self.now at }
 
         ensures reads { HasRead (F.state flash.old) (F.state flash.new) result }
-        ensures erased { IfTold (F.state flash.old).image (λ image. IfOk result (λ is_erased.
+        ensures erased { ForSome (F.state flash.old).image (λ image. IfOk result (λ is_erased.
             IsTrue is_erased ↔ IsErased image at (end_of self.now - at))) }
     {
         is_erased_range(flash, at, self.base + self.size - at, work)

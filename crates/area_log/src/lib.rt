@@ -8,7 +8,6 @@
 
 mod area;
 mod laws;
-mod range;
 mod read;
 mod scan;
 

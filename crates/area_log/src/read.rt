@@ -1,10 +1,12 @@
 // The value of a record, read back from an area.
 ghost use Rattle.std.specs.Prelude.{◌≡◌, ◌≢◌, ◌⊎◌, ◌+◌, ◌-◌, ◌<◌, ◌≤◌, List, ℕ, length, replicate, IfOk, IfErr, OnErr};
 ghost use Rattle.flash_core.specs.Calls.{OnlyReads};
+ghost use Rattle.flash_core.specs.Runs.{IsCounted};
 ghost use Rattle.flash_core.specs.Sizes.{IsValid as IsValidGeometry, size_of};
+ghost use Rattle.record_core.specs.Endings.{kv_ended};
 ghost use Rattle.record_core.specs.Header.{IsValid};
 ghost use Rattle.record_core.specs.Lookup.{IsReadFault};
-ghost use Rattle.area_log.specs.Areas.{end_of, IsAreaOf, IsRange};
+ghost use Rattle.area_log.specs.Areas.{CanWork, end_of, IsAreaOf, IsRange};
 ghost use Rattle.area_log.specs.Checked.{ChecksWrong, GivesChecked, IsTooFar, Passes};
 ghost use Rattle.area_log.specs.Reading.{IsWithin, ReadsValue};
 
@@ -32,6 +34,7 @@ fn read_checked<F: Flash>(
     requires some { 1 ≤ length work.old }
     requires within { skipped + length out.old ≤ header.now.value_size }
     ensures reads { OnlyReads (F.state flash.old) (F.state flash.new) }
+    ensures counts { IsCounted (F.state flash.old) (F.state flash.new) (kv_ended result) }
     ensures cause { IfErr result (λ e. IsReadFault (F.state flash.old) (F.state flash.new) e
         ⊎ ChecksWrong (F.state flash.old) place header.now e) }
     ensures right { IfOk result (λ _. Passes (F.state flash.old) place header.now skipped out.new) }
@@ -69,6 +72,7 @@ fn read_value<F: Flash>(
     requires some { 1 ≤ length work.old }
     requires zeros { buf.old ≡ replicate (length buf.old) 0 }
     ensures reads { OnlyReads (F.state flash.old) (F.state flash.new) }
+    ensures counts { IsCounted (F.state flash.old) (F.state flash.new) (kv_ended result) }
     ensures cause { IfErr result (λ e. IsReadFault (F.state flash.old) (F.state flash.new) e
         ⊎ (ChecksWrong (F.state flash.old) place header.now e
         ⊎ IsTooFar (F.state flash.old) place header.now offset e)) }
@@ -104,6 +108,7 @@ impl Area {
         requires inside { IsRange self.now at 24 }
         requires zeros { buf.old ≡ replicate (length buf.old) 0 }
         ensures reads { OnlyReads (F.state flash.old) (F.state flash.new) }
+        ensures counts { IsCounted (F.state flash.old) (F.state flash.new) (kv_ended result) }
         ensures answer { ReadsValue (F.state flash.old) (F.state flash.new) at
             (end_of self.now - at)
             offset buf.new result }
@@ -122,7 +127,7 @@ impl Area {
     /// area, with the CRC that stands there and its complement, and where the CRC isn't that of the
     /// record, with the one that stands there and the one of what was read. `InvalidSize` comes
     /// exactly where the CRC is right and the offset is above the size of the value. The bytes that
-    /// are given are those whose CRC was checked. `ReadFault` comes only where the count of read
+    /// are given are those whose CRC was checked. `ReadFault` comes exactly where the count of read
     /// faults rose, and on no steady device. The header at `at` lies in the area, and `work` has at
     /// least 64 bytes and at least a program unit.
     pub fn read_at<F: Flash>(
@@ -133,13 +138,11 @@ impl Area {
         buf: &mut [u8],
         work: &mut [u8],
     ) -> Result<Got, KvError>
-        requires valid { IsValidGeometry (F.state flash.old).geometry }
-        requires area { IsAreaOf (F.state flash.old).geometry self.now }
-        requires unit { (F.state flash.old).geometry.prog ≤ length work.old }
-        requires least { 64 ≤ length work.old }
+        requires can { CanWork (F.state flash.old).geometry self.now work.old }
         requires inside { IsRange self.now at 24 }
 
         ensures reads { OnlyReads (F.state flash.old) (F.state flash.new) }
+        ensures counts { IsCounted (F.state flash.old) (F.state flash.new) (kv_ended result) }
         ensures answer { ReadsValue (F.state flash.old) (F.state flash.new) at
             (end_of self.now - at)
             offset buf.new result }

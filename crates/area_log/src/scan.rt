@@ -1,10 +1,10 @@
 // A walk over the records of an area.
-ghost use Rattle.std.specs.Prelude.{◌≡◌, ℕ, ◌+◌, ◌≤◌, ◌<◌, List, [], ◌∷◌, ◌++◌, length, IfOk, IfErr, OnOk};
+ghost use Rattle.std.specs.Prelude.{◌≡◌, ℕ, ◌+◌, List, [], ◌∷◌, ◌++◌, IfOk, IfErr, OnOk};
+ghost use Rattle.std.specs.Option.{ForSome};
 ghost use Rattle.flash_core.specs.Sizes.{IsValid};
-ghost use Rattle.flash_core.specs.State.{IfTold};
 ghost use Rattle.area_log.specs.declared.area.Area.{Area};
-ghost use Rattle.area_log.specs.Areas.{IsAreaOf, IsEnd, IsRange};
-ghost use Rattle.area_log.specs.Listing.{Found, IsListOf, IsNext, IsRefusal};
+ghost use Rattle.area_log.specs.Areas.{CanWork, IsAreaOf, IsEnd, IsRange};
+ghost use Rattle.area_log.specs.Listing.{CountsRefusals, Found, HandsOn, IsListOf, IsNext, IsRefusal};
 ghost use Rattle.area_log.specs.Reading.{Visits};
 
 use crate::Area;
@@ -18,17 +18,21 @@ const MASTER_KEY_SIZE: u32 = 4;
 const MASTER_VALUE_SIZE: u32 = 8;
 
 /// What a walk shows the records of an area to. What its contract may speak of is the `area`, which
-/// no call changes, the lists of records that it `stands_for`, and whether it `ran_out` of memory.
+/// no call changes, the lists of records that it `stands_for`, how many `refusals` it made, and
+/// whether it `ran_out` of memory.
 pub trait Visitor {
     ghost area: { Self → Area };
 
     ghost stands_for: { Self → List Found → Type 0 };
 
+    ghost refusals: { Self → ℕ };
+
     ghost ran_out: { Self → Type 0 };
 
     /// Takes in one record more: its place, its key and its header. It may read the device, and
-    /// makes no program and no erase. `ReadFault` comes only where the count of read faults rose,
-    /// and `Memory` only where memory ran out.
+    /// makes no program and no erase. `ReadFault` comes exactly where the count of read faults
+    /// rose, and `Memory` only where memory ran out. A refusal raises the count of refusals by one,
+    /// and Ok leaves it.
     fn found<F: Flash>(
         &mut self,
         flash: &mut F,
@@ -39,15 +43,16 @@ pub trait Visitor {
         requires valid { IsValid (F.state flash.old).geometry }
         requires area { IsAreaOf (F.state flash.old).geometry (area self.old) }
         requires inside { IsRange (area self.old) at 24 }
-        requires next { IfTold (F.state flash.old).image (λ image. (before : List Found)
+        requires next { ForSome (F.state flash.old).image (λ image. (before : List Found)
             × IsNext (F.state flash.old).geometry image (area self.old)
             (record { at = at; key = key.now; header = header.now }) before
             × stands_for self.old before) }
         ensures area { area self.new ≡ area self.old }
         ensures visits { Visits (F.state flash.old) (F.state flash.new) result }
+        ensures refusals { CountsRefusals (refusals self.old) (refusals self.new) result }
         ensures cause { IfErr result (IsRefusal (F.state flash.old) (F.state flash.new)
             (ran_out self.new)) }
-        ensures stands { IfTold (F.state flash.old).image (λ image. (before : List Found)
+        ensures stands { ForSome (F.state flash.old).image (λ image. (before : List Found)
             → IsNext (F.state flash.old).geometry image (area self.old)
             (record { at = at; key = key.now; header = header.now }) before
             → stands_for self.old before
@@ -66,28 +71,26 @@ fn any_key() -> Key {
 impl Area {
     /// Shows the records behind the area's master record to the visitor, one after another, up to
     /// the first place that has none inside the area. The answer is the place behind the last one.
-    /// It refuses with what the visitor refused, and with `ReadFault` only where the count of read
-    /// faults rose. The visitor has this area and stands for no records. `work` has at least 64
-    /// bytes and at least a program unit.
+    /// It refuses exactly where the visitor refused, with what that was, and with `ReadFault` where
+    /// a read failed, whose count then rose. The visitor has this area and stands for no records.
+    /// `work` has at least 64 bytes and at least a program unit.
     pub fn scan<F: Flash, V: Visitor>(
         &self,
         flash: &mut F,
         visitor: &mut V,
         work: &mut [u8],
     ) -> Result<u32, KvError>
-        requires valid { IsValid (F.state flash.old).geometry }
-        requires area { IsAreaOf (F.state flash.old).geometry self.now }
-        requires unit { (F.state flash.old).geometry.prog ≤ length work.old }
-        requires least { 64 ≤ length work.old }
+        requires can { CanWork (F.state flash.old).geometry self.now work.old }
         requires same { V.area visitor.old ≡ self.now }
         requires none { V.stands_for visitor.old [] }
 
         ensures same { V.area visitor.new ≡ self.now }
         ensures visits { Visits (F.state flash.old) (F.state flash.new) result }
+        ensures handed_on { HandsOn (V.refusals visitor.old) (V.refusals visitor.new) result }
         ensures cause { IfErr result (IsRefusal (F.state flash.old) (F.state flash.new)
             (V.ran_out visitor.new)) }
         ensures end { IfOk result (IsEnd (F.state flash.old).geometry self.now) }
-        ensures all { IfTold (F.state flash.old).image
+        ensures all { ForSome (F.state flash.old).image
             (λ image. IfOk result (λ end. (list : List Found)
             × IsListOf (F.state flash.old).geometry image self.now end list
             × V.stands_for visitor.new list)) }

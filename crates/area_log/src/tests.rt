@@ -51,12 +51,15 @@ fn device_of(alloc: Global, prog: u32, image: &[u8; 512]) -> Result<RecordFlash,
 struct Places {
     area: Area,
     places: Vec<u32>,
+    refusals: u64,
 }
 
 impl Visitor for Places {
     ghost area = { λ s. s.area };
 
     ghost stands_for = { λ s list. s.places.items ≡ map (λ (found : Found). found.at) list };
+
+    ghost refusals = { λ s. s.refusals };
 
     ghost ran_out = { λ s. Unit {0} };
 
@@ -69,7 +72,10 @@ impl Visitor for Places {
     ) -> Result<(), KvError> {
         match self.places.push(at) {
             Ok(()) => Ok(()),
-            Err(_) => Err(KvError::Memory),
+            Err(_) => {
+                self.refusals = self.refusals.saturating_add(1);
+                Err(KvError::Memory)
+            }
         }
     }
 }
@@ -87,6 +93,7 @@ fn scanned(
     let mut visitor = Places {
         area: AREA,
         places: Vec::new(alloc),
+        refusals: 0,
     };
     let mut work = [0; 64];
     let end = AREA.scan(&mut flash, &mut visitor, &mut work)?;

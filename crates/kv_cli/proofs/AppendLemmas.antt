@@ -1,10 +1,9 @@
 -- What a store stands for once a record was written at its end.
-use Rattle.std.proofs.Common.{◌≡◌, ℕ, ◌+◌, ◌-◌, ◌<◌, ◌≤◌, Bool, true, false, List, [], ◌∷◌, ◌++◌, length, inl, inr, ⊎_elim, refl, sym, ◌∙◌, ap, subst, arith}
-use Rattle.std.specs.Prelude.{◌==◌, if◌then◌else◌, IsTrue, Option, Some, None, is_some, Result, Ok, Err, IfOk, IfErr, OnOk, slice_set}
+use Rattle.std.proofs.Common.{◌≡◌, ℕ, ◌+◌, ◌-◌, ◌<◌, ◌≤◌, Bool, true, List, [], ◌∷◌, ◌++◌, length, inl, inr, ⊎_elim, refl, sym, ◌∙◌, ap, subst, arith}
+use Rattle.std.specs.Prelude.{◌==◌, if◌then◌else◌, IsTrue, Option, Some, None, is_some, Result, Ok, Err, IfOk, IfErr, OnOk}
 use Rattle.std.specs.FinMap as map
 use Rattle.std.specs.Option.{unwrap_or}
-use Rattle.std.proofs.lemmas.Bool.{cases_eq, ne_eqb}
-use Rattle.std.proofs.lemmas.List.{get_or-set_other, get_or-set_same, length-set}
+use Rattle.std.proofs.lemmas.Bool.{ne_eqb}
 use mathlib.Core.Bool.{false≢true}
 use Rattle.flash_core.specs.declared.geometry.Geometry.{Geometry}
 use Rattle.flash_core.specs.Calls.{Keeps}
@@ -40,33 +39,15 @@ use Rattle.area_log.proofs.ScanLemmas.{listed-append}
 use Rattle.ram_table.specs.declared.table.Entry.{Entry}
 use Rattle.ram_table.specs.declared.table.Place.{Place}
 use Rattle.ram_table.specs.Find.{IsPlaceOf, key_at}
-use Rattle.ram_table.specs.Table.{entry_at}
-use Rattle.tdb_mount.specs.Index.{IsTable, changed, changed_by, places_of, record_of}
+use Rattle.ram_table.specs.Table.{changed, entry_at}
+use Rattle.tdb_mount.specs.Index.{IsTable, places_of, record_of}
 use Rattle.tdb_mount.specs.Keys.{keys_in}
-use Rattle.tdb_mount.specs.Room.{AreIn}
 use Rattle.tdb_mount.proofs.FormatLemmas.{master_in_area}
 use Rattle.tdb_mount.proofs.PlaceLemmas.{table_this, tells_before}
-use Rattle.tdb_mount.proofs.TableLemmas.{AreIn-insert, AreIn-remove}
+use Rattle.tdb_mount.proofs.TableLemmas.{AreIn-changed}
 use Rattle.kv_cli.specs.Writing.{image_of, IsTold}
 use Rattle.kv_cli.specs.LogStore.{Masters, IsLogOf, IsPlaced, IsReady, StandsFor, IfAnswered, after_record, with_record, hash_bits}
 use Rattle.kv_cli.proofs.TableLemmas.{all_records, begins, placed_with, told_table}
-
--- ---- entries that lie in an area
-
-AreIn-set : (area : Area) (entries : List Entry) (at : ℕ) (e : Entry) → AreIn area entries → at < length entries → area.base ≤ e.offset → e.offset + 24 ≤ end_of area → AreIn area (slice_set entries at e)
-AreIn-set area entries at e within inside from to i lt = ⊎_elim
-    (λ same. subst (λ (x : Entry). (area.base ≤ x.offset) × (x.offset + 24 ≤ end_of area))
-    (sym (ap (entry_at (slice_set entries at e)) same ∙ get_or-set_same entries at e (record { hash = 0; offset = 0 }) inside)) (from, to))
-    (λ other. subst (λ (x : Entry). (area.base ≤ x.offset) × (x.offset + 24 ≤ end_of area))
-    (sym (get_or-set_other entries at i e (record { hash = 0; offset = 0 }) other)) (within i (omega (arith, length-set entries at e, lt))))
-    (cases_eq i at)
-
-pub AreIn-changed : (area : Area) (entries : List Entry) (at hash offset : ℕ) (is_remove found : Bool) → AreIn area entries → at ≤ length entries → (found ≡ true → at < length entries)
-    → area.base ≤ offset → offset + 24 ≤ end_of area → AreIn area (changed_by entries at hash offset is_remove found)
-AreIn-changed area entries at hash offset true true within inside there from to = AreIn-remove area entries at within (there refl)
-AreIn-changed area entries at hash offset true false within inside there from to = within
-AreIn-changed area entries at hash offset false true within inside there from to = AreIn-set area entries at (record { hash = (entry_at entries at).hash; offset = offset }) within (there refl) from to
-AreIn-changed area entries at hash offset false false within inside there from to = AreIn-insert area entries at hash offset within inside from to
 
 -- ---- a log with one record more
 

@@ -1,11 +1,12 @@
 -- What a store stands for once its device was mounted.
 use Rattle.std.proofs.Common.{◌≡◌, ℕ, ◌+◌, ◌-◌, ◌*◌, ◌≤◌, true, false, List, [], length, inr, refl, sym, ◌∙◌, ap, subst, arith}
-use Rattle.std.specs.Prelude.{Option, Some, None, Ok}
+use Rattle.std.specs.Prelude.{Option, Some, None}
 use Rattle.std.specs.FinMap.{empty}
 use Rattle.base_core.proofs.UnitLemmas.{up-ge}
 use Rattle.flash_core.specs.declared.geometry.Geometry.{Geometry}
 use Rattle.flash_core.specs.Calls.{Keeps}
 use Rattle.flash_core.specs.Images.{part, IsErased, Torn}
+use Rattle.flash_core.specs.Runs.{Done}
 use Rattle.flash_core.specs.Sizes.{IsValid, area_size, size_of}
 use Rattle.flash_core.specs.State.{FlashState, IfTold, IsLawful}
 use Rattle.flash_core.proofs.GeometryLaws.{prog_positive, size-areas}
@@ -16,7 +17,7 @@ use Rattle.record_core.specs.Log.{AreAllRecords}
 use Rattle.kv_model.specs.Write.{map_of}
 use Rattle.record_core.specs.Mounts.{Contents, Holds, MasterAt, active_area}
 use Rattle.record_core.specs.Record.{IsMaster, master_bytes}
-use Rattle.record_core.proofs.LogLemmas.{all_before_erased, extent-positive}
+use Rattle.record_core.proofs.LogLemmas.{all_before_erased}
 use Rattle.record_core.proofs.MountLemmas.{IsMaster-put, length-master_bytes, no_master_erased, one_contents}
 use Rattle.area_log.specs.declared.area.Area.{Area}
 use Rattle.area_log.specs.Areas.{end_of, first_place, IsAreaOf}
@@ -27,7 +28,7 @@ use Rattle.tdb_mount.specs.Index.{IsTable, places_of}
 use Rattle.tdb_mount.specs.Mounted.{IsMountOf, IsSafe}
 use Rattle.tdb_mount.specs.Room.{AreIn, area_of}
 use mathlib.Core.Bool.{false≢true}
-use Rattle.tdb_mount.proofs.MountLemmas.{no_second}
+use Rattle.tdb_mount.proofs.MountLemmas.{no_second, torn_formatted}
 use Rattle.flash_core.proofs.EraseLaws.{length-erased}
 use Rattle.tdb_mount.proofs.FormatLemmas.{master_in_area}
 use Rattle.kv_cli.specs.Writing.{image_of, IsTold}
@@ -88,10 +89,6 @@ module _ {old new : FlashState} (device : IsTold old) (kept : Keeps old new) (la
         no_set = refl;
       }
 
-pub leaves_any : {T : Type 0} (E : Type 0) (g : Geometry) (image left : List ℕ) (x : T) (active : Option ℕ) → LeavesBy {T = T} {E = E} g image left (Ok x) active → LeavesBy {T = Unit {0}} {E = Unit {0}} g image left (Ok tt) active
-leaves_any E g image left x None leaves = leaves
-leaves_any E g image left x (Some number) leaves = leaves
-
 -- ---- a device that was formatted
 
 abbrev pub fresh_contents : Geometry → Contents
@@ -118,16 +115,16 @@ module _ (g : Geometry) (valid : IsValid g) (image : List ℕ) (sized : length i
   fresh_tail = IsErased-Torn 0 (master_size g.prog) (first_erased g image) (formatted g image) (master_size g.prog) (area_size g - master_size g.prog) master_torn (inr (omega arith))
       (IsErased-within (first_erased g image) 0 (area_size g) (master_size g.prog) (area_size g - master_size g.prog) (IsErased-put image 0 (area_size g) (omega (arith, area_fits))) (omega arith) (omega (arith, master_in_area g valid)))
 
-  module _ (left : List ℕ) (leaves : LeavesBy {T = Unit {0}} {E = Unit {0}} g image left (Ok tt) None) where
+  module _ (left : List ℕ) (leaves : LeavesBy g image left Done None) where
     -- it is erased behind its master
     pub left_tail : IsErased left (master_size g.prog) (area_size g - master_size g.prog)
-    left_tail = subst (λ (l : List ℕ). IsErased l (master_size g.prog) (area_size g - master_size g.prog)) (sym leaves.0) fresh_tail
+    left_tail = subst (λ (l : List ℕ). IsErased l (master_size g.prog) (area_size g - master_size g.prog)) (sym leaves) fresh_tail
 
     second_same : part left (area_size g) (master_size g.prog) ≡ part image (area_size g) (master_size g.prog)
-    second_same = part-Torn 0 (area_size g) image left (area_size g) (master_size g.prog) leaves.1 (inr (omega arith)) (omega (arith, sized, size-areas g, master_in_area g valid))
+    second_same = part-Torn 0 (area_size g) image left (area_size g) (master_size g.prog) (subst (Torn 0 (area_size g) image) (sym leaves) (torn_formatted g valid image sized)) (inr (omega arith)) (omega (arith, sized, size-areas g, master_in_area g valid))
 
     first_master : IsMaster g.prog 1 (part left 0 (master_size g.prog))
-    first_master = subst (λ (l : List ℕ). IsMaster g.prog 1 (part l 0 (master_size g.prog))) (sym leaves.0)
+    first_master = subst (λ (l : List ℕ). IsMaster g.prog 1 (part l 0 (master_size g.prog))) (sym leaves)
         (IsMaster-put g.prog fresh_positive (first_erased g image) 0 1 (omega arith) (omega (arith, middle_long, area_fits, master_in_area g valid)))
 
     first : 0 * area_size g + master_size g.prog ≡ master_size g.prog
@@ -154,7 +151,7 @@ module _ (g : Geometry) (valid : IsValid g) (image : List ℕ) (sized : length i
     no_master : (area : ℕ) → area + 1 ≤ size_of g → MasterAt g.prog image area None
     no_master area inside version is = no_master_erased g.prog fresh_positive image area version (erased area (omega arith) (omega (arith, inside))) is
 
-    pub erased_holds : (left : List ℕ) → Leaves {T = Unit {0}} {E = Unit {0}} g image left (Ok tt) → Holds g left (fresh_contents g)
+    pub erased_holds : (left : List ℕ) → Leaves g image left Done → Holds g left (fresh_contents g)
     erased_holds left leaves =
         let second = no_master (area_size g) (omega (arith, some_area, size-areas g)) in
         left_holds left (leaves None None (no_master 0 (omega (arith, some_area, size-areas g))) second) second
@@ -172,7 +169,7 @@ TailIsErased g image number end = IsErased image end (end_of (area_of g number) 
 
 module _ (g : Geometry) (valid : IsValid g) (image left : List ℕ) (sized : length image ≡ size_of g) (parts : Parts) (mounted : IsMountOf g hash_bits left parts) (dirty : parts.clean ≡ false)
     (contents : Contents) (holds : Holds g image contents) where
-  dirty_by : (active : Option ℕ) → area_in contents ≡ active → LeavesBy {T = Unit {0}} {E = Unit {0}} g image left (Ok tt) active → HasDirtyTail g image contents
+  dirty_by : (active : Option ℕ) → area_in contents ≡ active → LeavesBy g image left Done active → HasDirtyTail g image contents
   dirty_by None none leaves =
       let second = subst (MasterAt g.prog image (area_size g)) (no_second contents.first contents.second none) holds.second_master in
       let one = one_contents g left (prog_positive g valid) mounted.contents (fresh_contents g) mounted.holds (left_holds g valid image sized left leaves second) in
@@ -192,5 +189,5 @@ module _ (g : Geometry) (valid : IsValid g) (image left : List ℕ) (sized : len
         dirty = λ erased. false≢true (sym dirty ∙ is.clean.1 (subst (λ (e : ℕ). TailIsErased g image parts.active e) (sym end) (subst (λ (n : ℕ). TailIsErased g image n contents.end) (sym number_is) erased)));
       }
 
-  pub tail_dirty : Leaves {T = Unit {0}} {E = Unit {0}} g image left (Ok tt) → HasDirtyTail g image contents
+  pub tail_dirty : Leaves g image left Done → HasDirtyTail g image contents
   tail_dirty leaves = dirty_by (area_in contents) refl (leaves contents.first contents.second holds.first_master holds.second_master)

@@ -2,6 +2,7 @@
 ghost use Rattle.std.specs.Prelude.{◌≡◌, ◌≢◌, ◌+◌, ◌-◌, ◌<◌, ◌≤◌, ℕ, List, [], ◌∷◌, ◌++◌, length, true, false, Ok, IfOk, IfErr, IsErr, IsOkAnd, OnOk, MatchResult, IsTrue, replicate};
 ghost use Rattle.std.specs.FinMap.{empty, get};
 ghost use Rattle.flash_core.specs.Calls.{OnlyReads};
+ghost use Rattle.flash_core.specs.Runs.{Done};
 ghost use Rattle.flash_core.specs.Sizes.{size_of};
 ghost use Rattle.kv_model.specs.Crc.{key_hash};
 ghost use Rattle.kv_model.specs.Flags.{remove_flags};
@@ -21,7 +22,6 @@ ghost use Rattle.area_log.specs.Areas.{end_of};
 ghost use Rattle.area_log.specs.Reading.{Gives, IsWithin};
 ghost use Rattle.ram_table.specs.Table.{entry_at};
 ghost use Rattle.tdb_mount.specs.Format.{Leaves};
-ghost use Rattle.tdb_mount.specs.Index.{changed};
 ghost use Rattle.kv_cli.specs.Inputs.{IsEarlyAct};
 ghost use Rattle.kv_cli.specs.Reading.{IsPartOf};
 ghost use Rattle.kv_cli.specs.Writing.{image_of, IsTold};
@@ -33,8 +33,6 @@ use kv_model::{Bytes, Call, Flags, Got, Key, KvError, NoMemory, Reply};
 use ram_table::{Place, RamTable};
 use record_core::{hash_of, padded_size, size_of_record};
 use std::alloc::Global;
-use std::marker::Brand;
-use std::sync::ledger::Blank;
 use tdb_mount::{area_at, mount_parts, place_of};
 
 const MAX_VALUE: usize = kv_model::MAX_VALUE as usize;
@@ -92,21 +90,6 @@ fn reserve_for(table: &mut RamTable, place: Place, is_remove: bool) -> Result<()
     }
 }
 
-// Takes a record at `at` into the table, whose key has this place and this hash.
-fn take_in(table: &mut RamTable, place: Place, hash: u32, at: u32, is_remove: bool)
-    requires inside { place.at ≤ length table.old.entries }
-    requires there { place.found ≡ true → place.at < length table.old.entries }
-    requires room { is_remove ≡ false → place.found ≡ false → 1 ≤ table.old.spare }
-    ensures { table.new.entries ≡ changed table.old.entries place hash at is_remove }
-{
-    match (is_remove, place.found) {
-        (true, true) => table.remove(place.at),
-        (true, false) => {}
-        (false, true) => table.replace(place.at, at),
-        (false, false) => table.insert(place.at, hash, at),
-    }
-}
-
 impl<F: Flash> LogStore<F> {
     /// A store over a sound device of a valid geometry. It stands for what the device holds once it was mounted, which
     /// formats one without a valid area. `DirtyTail` comes exactly where the bytes behind the last record of the active
@@ -119,7 +102,7 @@ impl<F: Flash> LogStore<F> {
             → HasDirtyTail (F.state flash).geometry (image_of (F.state flash)) contents }
         ensures geometry { IfOk result (λ store. (F.state store.flash).geometry ≡ (F.state flash).geometry) }
         ensures ready { IfOk result (λ store. IsReady (F.state store.flash) store.area store.end store.table.entries store.work.items) }
-        ensures leaves { IfOk result (λ store. Leaves {T = Unit {0}} {E = Unit {0}} (F.state flash).geometry (image_of (F.state flash)) (image_of (F.state store.flash)) (Ok tt)) }
+        ensures leaves { IfOk result (λ store. Leaves (F.state flash).geometry (image_of (F.state flash)) (image_of (F.state store.flash)) Done) }
         ensures stands { IfOk result (λ store. (vector : ℕ) (contents : Contents) → Holds (F.state flash).geometry (image_of (F.state store.flash)) contents
             → StandsFor (F.state store.flash) store.area store.end store.table.entries (record { first = contents.first; second = contents.second }) contents.records
             (fresh_state (map_of contents.records) empty vector)) }
@@ -390,7 +373,7 @@ impl<F: Flash> LogStore<F> {
             .area
             .append_record(&mut self.flash, at, key, value, flags, work)?;
         let hash = hash_of(key, HASH_BITS);
-        take_in(&mut self.table, place, hash, at, is_remove);
+        self.table.take_in(place, hash, at, is_remove);
         Ok(Reply::Done)
     }
 
@@ -404,9 +387,7 @@ impl<F: Flash> LogStore<F> {
         ensures table { self.new.table ≡ self.old.table }
         ensures placed { IsOkAnd result (IsPlaced (F.state self.new.flash) self.new.area self.new.table.entries key.now) }
     {
-        let blank = Blank::new(1);
-        let table = &self.table;
-        place_of::<Brand, F>(table, &mut self.flash, self.area, HASH_BITS, key, blank)
+        place_of(&self.table, &mut self.flash, self.area, HASH_BITS, key)
     }
 
     // Reads the value of the entry at this place of the table from the offset on, as much as there is and fits.

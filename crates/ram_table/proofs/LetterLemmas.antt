@@ -6,7 +6,11 @@ use Rattle.std.specs.FinMap.{contains_key, get, get-empty, get-insert}
 use Rattle.std.specs.Ordering.{nat_cmp}
 use Rattle.std.proofs.lemmas.Bool.{cases_eq, eqb-true}
 use mathlib.Core.Bool.{false≢true}
-use Rattle.ram_table.specs.Letters.{letters}
+use Rattle.std.proofs.lemmas.Option.{same_Some}
+use Rattle.ram_table.specs.declared.table.Entry.{Entry}
+use Rattle.ram_table.specs.Find.{CanFind, IsIndexOf}
+use Rattle.ram_table.specs.Letters.{letters, letters_state}
+use Rattle.ram_table.specs.Reader.{KeyMap}
 
 pub letter_at : (n : ℕ) → get letters n ≡ cond (n == 99) (Some (99 ∷ [])) (cond (n == 98) (Some (98 ∷ [])) (cond (n == 97) (Some (97 ∷ [])) None))
 letter_at n = simp (get-insert {X = List ℕ} nat_cmp_total, get-empty {X = List ℕ} nat_cmp, unsigned_tied)
@@ -43,3 +47,9 @@ in_range n from to =
 
 pub at_most_last : (n : ℕ) → IsTrue (contains_key letters n) → n ≤ 99
 at_most_last n has = by_letter (λ (m : ℕ). m ≤ 99) n has (omega arith) (omega arith) (omega arith)
+
+pub letters_can_find : {bits : ℕ} {entries : List Entry} → IsIndexOf bits letters entries → CanFind (letters_state bits) entries
+letters_can_find {bits = bits} {entries = entries} index = record {
+  within = λ i inside. at_most_last _ (index.has i inside);
+  index = λ keys told. subst (λ (map : KeyMap). IsIndexOf bits map entries) (same_Some letters keys told) index;
+}

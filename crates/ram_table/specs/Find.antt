@@ -1,12 +1,12 @@
 -- Where a key stands in a table, or would stand.
 use Rattle.std.specs.Prelude.{◌≡◌, ℕ, ◌<◌, ◌≤◌, ◌↔◌, ◌==◌, List, [], length, true, false, IsTrue, count_by}
-use Rattle.std.specs.Option.{unwrap_or}
+use Rattle.std.specs.Option.{ForSome, unwrap_or}
 use Rattle.std.specs.FinMap.{contains_key, get}
 use Rattle.kv_model.specs.Crc.{key_hash}
 use Rattle.kv_model.specs.KeyOrder.{is_below}
 use Rattle.ram_table.specs.declared.table.Entry.{Entry}
 use Rattle.ram_table.specs.declared.table.Place.{Place}
-use Rattle.ram_table.specs.Reader.{KeyMap}
+use Rattle.ram_table.specs.Reader.{KeyMap, ReaderState}
 use Rattle.ram_table.specs.Table.{entry_at}
 
 -- the key of the entry at a place
@@ -22,6 +22,17 @@ pub record IsIndexOf (hash_bits : ℕ) (keys : KeyMap) (entries : List Entry) : 
   pub has : (i : ℕ) → i < length entries → IsTrue (contains_key keys (entry_at entries i).offset)
   pub hash : (i : ℕ) → i < length entries → (entry_at entries i).hash ≡ key_hash hash_bits (key_at keys entries i)
   pub ascend : (i j : ℕ) → i < j → j < length entries → IsTrue (is_below hash_bits (key_at keys entries i) (key_at keys entries j))
+
+-- Entries that may be searched with a reader: no offset is greater than its bound, and where it tells the keys, they are
+-- an index of these.
+pub record CanFind (s : ReaderState) (entries : List Entry) : Type 0 where
+  pub within : AreWithin s.bound entries
+  pub index : ForSome s.keys (λ keys. IsIndexOf s.hash_bits keys entries)
+
+-- The place is at most the length, and below it where the key is found.
+pub record IsInside (entries : List Entry) (place : Place) : Type 0 where
+  pub most : place.at ≤ length entries
+  pub there : place.found ≡ true → place.at < length entries
 
 -- some entry's key is this key
 pub record HasKey (keys : KeyMap) (entries : List Entry) (key : List ℕ) : Type 0 where

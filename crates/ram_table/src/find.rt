@@ -1,9 +1,10 @@
 // Looking for a key.
-ghost use Rattle.std.specs.Prelude.{◌≡◌, ◌+◌, ◌<◌, ◌≤◌, ◌^◌, ℕ, length, true, IfOk, IfErr};
+ghost use Rattle.std.specs.Prelude.{◌≡◌, ◌+◌, ◌<◌, ◌≤◌, ◌^◌, ℕ, length, IfOk};
+ghost use Rattle.std.specs.Option.{ForSome};
 ghost use Rattle.kv_model.specs.Crc.{key_hash};
-ghost use Rattle.ram_table.specs.Reader.{IfTold, IsRefusal, Keeps};
+ghost use Rattle.ram_table.specs.Reader.{HasRead};
 ghost use Rattle.ram_table.specs.Table.{entry_at};
-ghost use Rattle.ram_table.specs.Find.{AreWithin, AscendByHash, IsFirstAbove, IsIndexOf, IsPlaceOf, count_hash};
+ghost use Rattle.ram_table.specs.Find.{AscendByHash, CanFind, IsFirstAbove, IsInside, IsPlaceOf, count_hash};
 
 use crate::{KeyReader, Place, RamTable, Steps};
 use kv_model::{Key, KvError};
@@ -54,23 +55,18 @@ impl RamTable {
         steps: &mut Steps<L>,
     ) -> Result<Place, KvError>
         requires hash { hash ≡ key_hash (R.state reader.old).hash_bits key.now }
-        requires within { AreWithin (R.state reader.old).bound self.now.entries }
-        requires index { IfTold (R.state reader.old).keys (λ keys.
-            IsIndexOf (R.state reader.old).hash_bits keys self.now.entries) }
+        requires can { CanFind (R.state reader.old) self.now.entries }
         requires inside { first ≤ length self.now.entries }
         requires below { AscendByHash self.now.entries → (i : ℕ) → i < first
             → (entry_at self.now.entries i).hash < hash }
         requires above { AscendByHash self.now.entries → (i : ℕ) → first ≤ i
             → i < length self.now.entries
             → hash ≤ (entry_at self.now.entries i).hash }
-        ensures kept { Keeps (R.state reader.old) (R.state reader.new) }
+        ensures reads { HasRead (R.state reader.old) (R.state reader.new) result }
         ensures follows { R.may_follow reader.old reader.new }
-        ensures inside { IfOk result (λ place. place.at ≤ length self.now.entries) }
-        ensures there { IfOk result (λ place. place.found ≡ true
-            → place.at < length self.now.entries) }
-        ensures place { IfTold (R.state reader.old).keys (λ keys. IfOk result (λ place.
+        ensures inside { IfOk result (IsInside self.now.entries) }
+        ensures place { ForSome (R.state reader.old).keys (λ keys. IfOk result (λ place.
             IsPlaceOf (R.state reader.old).hash_bits keys self.now.entries key.now place)) }
-        ensures cause { IfErr result (IsRefusal (R.state reader.old) (R.state reader.new)) }
         ensures not_fewer { steps.old ≤ steps.new }
         ensures steps { steps.new ≤ steps.old + count_hash hash self.now.entries + 1 }
     {
@@ -94,8 +90,8 @@ impl RamTable {
     }
 
     /// Looks for a key, whose hash is the low bits of its CRC that the reader's keys have: gives
-    /// the key's place, and whether the key stands there. It refuses only with what the reader
-    /// refused.
+    /// the key's place, and whether the key stands there. It refuses exactly where the reader
+    /// refused, with what that was.
     ///
     /// It looks at no more entries than the number of binary digits of the length and the number of
     /// entries with this hash, and one.
@@ -107,17 +103,12 @@ impl RamTable {
         steps: &mut Steps<L>,
     ) -> Result<Place, KvError>
         requires hash { hash ≡ key_hash (R.state reader.old).hash_bits key.now }
-        requires within { AreWithin (R.state reader.old).bound self.now.entries }
-        requires index { IfTold (R.state reader.old).keys (λ keys.
-            IsIndexOf (R.state reader.old).hash_bits keys self.now.entries) }
-        ensures kept { Keeps (R.state reader.old) (R.state reader.new) }
+        requires can { CanFind (R.state reader.old) self.now.entries }
+        ensures reads { HasRead (R.state reader.old) (R.state reader.new) result }
         ensures follows { R.may_follow reader.old reader.new }
-        ensures inside { IfOk result (λ place. place.at ≤ length self.now.entries) }
-        ensures there { IfOk result (λ place. place.found ≡ true
-            → place.at < length self.now.entries) }
-        ensures place { IfTold (R.state reader.old).keys (λ keys. IfOk result (λ place.
+        ensures inside { IfOk result (IsInside self.now.entries) }
+        ensures place { ForSome (R.state reader.old).keys (λ keys. IfOk result (λ place.
             IsPlaceOf (R.state reader.old).hash_bits keys self.now.entries key.now place)) }
-        ensures cause { IfErr result (IsRefusal (R.state reader.old) (R.state reader.new)) }
         ensures not_fewer { steps.old ≤ steps.new }
         ensures steps { (digits : ℕ) → length self.now.entries < 2 ^ digits
             → steps.new ≤ steps.old + digits + count_hash hash self.now.entries + 1 }
@@ -138,15 +129,12 @@ impl RamTable {
         requires parts { blank.parts ≡ L.parts }
         requires some { 0 < blank.parts }
         requires hash { hash ≡ key_hash (R.state reader.old).hash_bits key.now }
-        requires within { AreWithin (R.state reader.old).bound self.now.entries }
-        requires index { IfTold (R.state reader.old).keys (λ keys.
-            IsIndexOf (R.state reader.old).hash_bits keys self.now.entries) }
-        ensures kept { Keeps (R.state reader.old) (R.state reader.new) }
+        requires can { CanFind (R.state reader.old) self.now.entries }
+        ensures reads { HasRead (R.state reader.old) (R.state reader.new) result }
         ensures follows { R.may_follow reader.old reader.new }
         ensures inside { IfOk result (λ at. at ≤ length self.now.entries) }
-        ensures first { IfTold (R.state reader.old).keys (λ keys. IfOk result
+        ensures first { ForSome (R.state reader.old).keys (λ keys. IfOk result
             (IsFirstAbove (R.state reader.old).hash_bits keys self.now.entries key.now)) }
-        ensures cause { IfErr result (IsRefusal (R.state reader.old) (R.state reader.new)) }
     {
         let length = self.len();
         let mut steps = Steps::<L>::new(blank);
@@ -160,7 +148,7 @@ impl RamTable {
 
     /// Looks for the first place whose key stands above a key, whose hash is the low bits of its
     /// CRC that the reader's keys have. That place is the length where no key stands above. It
-    /// refuses only with what the reader refused.
+    /// refuses exactly where the reader refused, with what that was.
     pub fn place_after<R: KeyReader>(
         &self,
         reader: &mut R,
@@ -168,15 +156,12 @@ impl RamTable {
         key: &Key,
     ) -> Result<u32, KvError>
         requires hash { hash ≡ key_hash (R.state reader.old).hash_bits key.now }
-        requires within { AreWithin (R.state reader.old).bound self.now.entries }
-        requires index { IfTold (R.state reader.old).keys (λ keys.
-            IsIndexOf (R.state reader.old).hash_bits keys self.now.entries) }
-        ensures kept { Keeps (R.state reader.old) (R.state reader.new) }
+        requires can { CanFind (R.state reader.old) self.now.entries }
+        ensures reads { HasRead (R.state reader.old) (R.state reader.new) result }
         ensures follows { R.may_follow reader.old reader.new }
         ensures inside { IfOk result (λ at. at ≤ length self.now.entries) }
-        ensures first { IfTold (R.state reader.old).keys (λ keys. IfOk result
+        ensures first { ForSome (R.state reader.old).keys (λ keys. IfOk result
             (IsFirstAbove (R.state reader.old).hash_bits keys self.now.entries key.now)) }
-        ensures cause { IfErr result (IsRefusal (R.state reader.old) (R.state reader.new)) }
     {
         self.first_after::<R, Brand>(Blank::new(1), reader, hash, key)
     }

@@ -1,7 +1,8 @@
 // The table and its changes.
-ghost use Rattle.std.specs.Prelude.{◌≡◌, ◌+◌, ◌<◌, ◌≤◌, [], length, slice_set, OnOk, IsOk};
+ghost use Rattle.std.specs.Prelude.{◌≡◌, ◌+◌, ◌<◌, ◌≤◌, [], length, slice_set, false, OnOk, IsOk};
 ghost use Rattle.std.specs.List.{insert, remove};
-ghost use Rattle.ram_table.specs.Table.{KeepsRoom, entry_at, most_entries};
+ghost use Rattle.ram_table.specs.Find.{IsInside};
+ghost use Rattle.ram_table.specs.Table.{KeepsRoom, changed, entry_at, most_entries};
 
 use crate::Steps;
 use kv_model::NoMemory;
@@ -138,6 +139,24 @@ impl RamTable {
         ensures spare { self.new.spare ≡ self.old.spare + 1 }
     {
         self.entries.remove(at as usize);
+    }
+
+    /// Takes in the last record of a key, which stands at `offset`, by the key's place and hash: a
+    /// remove takes the key's entry out, and any other record's offset becomes the entry's. It
+    /// takes no memory.
+    pub fn take_in(&mut self, place: Place, hash: u32, offset: u32, is_remove: bool)
+        requires inside { IsInside self.old.entries place }
+        requires spare { is_remove ≡ false → place.found ≡ false → 1 ≤ self.old.spare }
+        ensures entries { self.new.entries
+            ≡ changed self.old.entries place hash offset is_remove }
+        ensures room { KeepsRoom self.old self.new }
+    {
+        match (is_remove, place.found) {
+            (true, true) => self.remove(place.at),
+            (true, false) => {}
+            (false, true) => self.replace(place.at, offset),
+            (false, false) => self.insert(place.at, hash, offset),
+        }
     }
 
     /// Replaces the entries by those of another table, for which there is room. It takes no memory.

@@ -22,7 +22,7 @@ use Rattle.record_core.specs.Log.{extent}
 use Rattle.record_core.specs.Record.{record_header, record_payload}
 use Rattle.record_core.specs.Written.{AppendsRecord, master_of}
 use Rattle.record_core.proofs.RecordLemmas.{length-record_header, length-record_payload}
-use Rattle.area_log.proofs.AppendLemmas.{Within-record}
+use Rattle.record_core.proofs.WithinLemmas.{Within-appends}
 use Rattle.tdb_mount.specs.Format.{Formats, first_erased}
 
 pub some_is : {X : Type 0} (x y : X) → Some x ≡ Some y → x ≡ y
@@ -38,18 +38,14 @@ module _ (g : Geometry) (valid : IsValid g) where
   -- no moment of a format differs outside the first area
   pub Within-formats : (image : List ℕ) → length image ≡ size_of g → (call : Option DeviceCall) (c : List ℕ) → Formats g image call c → Within 0 (area_size g) image call c
   Within-formats image sized call c moment =
-      let positive = prog_positive g valid in
-      let r = master_of 1 in
       let fits : 0 + area_size g ≤ length image = omega (arith, sized, size-areas g) in
-      let size : length (record_header g.prog r.flags r.key r.value) + length (record_payload g.prog r.key r.value) ≡ master_size g.prog =
-      omega (arith, length-record_header g.prog positive r.flags r.key r.value, length-record_payload g.prog positive r.flags r.key r.value) in
       let long : length (first_erased g image) ≡ length image = length-erased image 0 (area_size g) fits in
       ⊎_elim
       (λ erases. Within-erases g 0 g.units_per_area image call c fits erases)
       (λ appends. Within-trans 0 (area_size g) image (first_erased g image) call c
       (Torn-erased image 0 (area_size g) (area_size g) (omega arith) fits)
-      (Within-widen 0 (length (record_header g.prog r.flags r.key r.value) + length (record_payload g.prog r.key r.value)) 0 (area_size g) (first_erased g image) call c (omega arith) (omega (arith, size, master_in_area))
-      (Within-record g.prog 0 (record_header g.prog r.flags r.key r.value) (record_payload g.prog r.key r.value) (first_erased g image) call c (omega (arith, size, long, fits, master_in_area)) appends)))
+      (Within-widen 0 (master_size g.prog) 0 (area_size g) (first_erased g image) call c (omega arith) (omega (arith, master_in_area))
+      (Within-appends g.prog (prog_positive g valid) 0 (master_of 1) (first_erased g image) call c (omega (arith, long, fits, master_in_area)) appends)))
       moment
 
 pub format_within : {old new : FlashState} {ending : Ending} → IsValid old.geometry → IsLawful old → RunsBy old new (Formats old.geometry) ending → RunsBy old new (Within 0 (area_size old.geometry)) ending

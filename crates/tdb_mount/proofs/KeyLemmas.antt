@@ -14,6 +14,7 @@ use Rattle.std.proofs.lemmas.Nat.{from_le_bytes-to_le_bytes_2, from_le_bytes-to_
 use Rattle.std.proofs.lemmas.Slice.Eq.{bytes_eq-Decides}
 use mathlib.Core.Bool.{false≢true}
 use Rattle.flash_core.specs.Images.{part}
+use Rattle.kv_model.specs.declared.limits.TheConstants.{MAX_KEY, MAX_VALUE}
 use Rattle.kv_model.specs.Flags.{remove_flags}
 use Rattle.kv_model.specs.Write.{Write}
 use Rattle.kv_model.specs.Keys.{is_key}
@@ -102,8 +103,8 @@ pub is_header-valid : (header : Header) → is_header header ≡ true → IsVali
 unfolding is_header
 is_header-valid header is =
     let e = both_of _ (not (header.flags == remove_flags) || header.value_size == 0) is in
-    let d = both_of _ (nat_le header.value_size 65592) e.0 in
-    let c = both_of _ (nat_le header.key_size 128) d.0 in
+    let d = both_of _ (nat_le header.value_size MAX_VALUE) e.0 in
+    let c = both_of _ (nat_le header.key_size MAX_KEY) d.0 in
     let b = both_of _ (nat_le 1 header.key_size) c.0 in
     record {
       kind = ⊎_elim
@@ -111,8 +112,8 @@ is_header-valid header is =
           (λ remove_is. inr (inr (eqb-true header.flags remove_flags remove_is)))
           (some_of (header.flags == 0 || header.flags == 1) (header.flags == remove_flags) b.0);
       key_least = leb-true 1 header.key_size b.1;
-      key_most = leb-true header.key_size 128 c.1;
-      value_most = leb-true header.value_size 65592 d.1;
+      key_most = leb-true header.key_size MAX_KEY c.1;
+      value_most = leb-true header.value_size MAX_VALUE d.1;
       remove_is_empty = λ removes. eqb-true header.value_size 0
           (ap (λ (x : Bool). not x || header.value_size == 0) (sym (eq-eqb header.flags remove_flags removes)) ∙ e.1);
     }
@@ -132,8 +133,8 @@ valid-is_header header valid =
     (λ remove_is. or_right (header.flags == 0 || header.flags == 1) _ (eq-eqb header.flags remove_flags remove_is)))
     valid.kind in
     let least = le-leb 1 header.key_size valid.key_least in
-    let most = le-leb header.key_size 128 valid.key_most in
-    let value = le-leb header.value_size 65592 valid.value_most in
+    let most = le-leb header.key_size MAX_KEY valid.key_most in
+    let value = le-leb header.value_size MAX_VALUE valid.value_most in
     let empty = empty_if (header.flags == remove_flags) header refl valid.remove_is_empty in
     λ i. kind i && least i && most i && value i && empty i
 

@@ -1,9 +1,10 @@
 -- What the laws say of maps, versions, places and keys.
 use Rattle.std.proofs.Common.{◌≡◌, ℕ, ◌+◌, ◌-◌, ◌*◌, ◌%◌, ◌^◌, ◌<◌, ◌≤◌, Bool, List, [], length, inr, refl, sym, ◌∙◌, ap, subst, arith, ◌≢◌, ◌∷◌, ◌++◌, true, false}
-use Rattle.std.specs.Prelude.{if◌then◌else◌, Option, Some, None, Ok, ◌==◌, ◌↔◌}
+use Rattle.std.specs.Prelude.{if◌then◌else◌, Option, Some, None, ◌==◌, ◌↔◌}
 use Rattle.std.proofs.lemmas.Bool.{eq-eqb, ne_eqb}
 use Rattle.flash_core.specs.declared.geometry.Geometry.{Geometry}
 use Rattle.flash_core.specs.Images.{IsErased, Torn}
+use Rattle.flash_core.specs.Runs.{Done}
 use Rattle.flash_core.specs.Sizes.{IsValid, area_size, size_of}
 use Rattle.flash_core.proofs.GeometryLaws.{prog_positive, size-areas}
 use Rattle.flash_core.proofs.ImageLaws.{IsErased-Torn, IsErased-put, IsErased-within, Torn-put}
@@ -14,7 +15,8 @@ use Rattle.kv_model.specs.Write.{map_of, Write}
 use Rattle.record_core.specs.Mounts.{ActiveRecords, Contents, Holds, Mounts, active_area}
 use Rattle.record_core.specs.Record.{master_bytes}
 use Rattle.record_core.proofs.LogLemmas.{all_before_erased}
-use Rattle.record_core.proofs.MountLemmas.{length-master_bytes}
+use Rattle.record_core.proofs.Existence.{some_contents}
+use Rattle.record_core.proofs.MountLemmas.{length-master_bytes, one_contents}
 use Rattle.std.specs.FinMap.{get, insert, remove}
 use Rattle.kv_model.specs.Flags.{remove_flags}
 use Rattle.area_log.specs.declared.area.Area.{Area}
@@ -29,7 +31,9 @@ use Rattle.tdb_mount.specs.Choice.{ChosenIn}
 use Rattle.tdb_mount.specs.Format.{Leaves, LeavesBy, first_erased, formatted}
 use Rattle.flash_core.proofs.EraseLaws.{length-erased}
 use Rattle.tdb_mount.proofs.FormatLemmas.{master_in_area}
-use Rattle.tdb_mount.proofs.MountLemmas.{formatted_chosen}
+use Rattle.tdb_mount.specs.Mounted.{IsMountOf, MountsAs}
+use Rattle.tdb_mount.specs.declared.mount.Parts.{Parts}
+use Rattle.tdb_mount.proofs.MountLemmas.{formatted_chosen, torn_formatted}
 
 module _ (g : Geometry) (valid : IsValid g) (image : List ℕ) (sized : length image ≡ size_of g) where
   abbrev start : ℕ
@@ -54,33 +58,46 @@ module _ (g : Geometry) (valid : IsValid g) (image : List ℕ) (sized : length i
   no_records : AreAllRecords g.prog (formatted g image) start limit start []
   no_records = all_before_erased g.prog (prog_positive g valid) (formatted g image) start limit start [] refl (omega (arith, master_in_area g valid)) erased_behind
 
-  formatted_mounts : (map : FlaggedMap) → map ≡ map_of [] → ChosenIn g image None → Torn 0 (area_size g) image (formatted g image) → Mounts g (formatted g image) map
-  formatted_mounts map none chosen torn =
-      let now = formatted_chosen g valid image sized chosen torn in (
+  pub formatted_mounts : ChosenIn g image None → Mounts g (formatted g image) (map_of [])
+  formatted_mounts chosen =
+      let now = formatted_chosen g valid image sized chosen (torn_formatted g valid image sized) in (
         record { first = now.first; second = now.second; records = []; end = start },
         record {
           first_master = now.first_master;
           second_master = now.second_master;
           active = subst (λ (o : Option ℕ). ActiveRecords g (formatted g image) o start []) (sym now.choice.0) no_records;
         },
-        none,
+        refl,
       )
 
   keeps_by : (left : List ℕ) (contents : Contents) (map : FlaggedMap) → Holds g image contents → map ≡ map_of contents.records → (area : Option ℕ)
-      → active_area contents.first contents.second ≡ area → LeavesBy {T = Unit {0}} {E = Unit {0}} g image left (Ok tt) area → Mounts g left map
+      → active_area contents.first contents.second ≡ area → LeavesBy g image left Done area → Mounts g left map
   keeps_by left contents map holds is (Some area) active leaves = subst (λ (l : List ℕ). Mounts g l map) (sym leaves) (contents, holds, is)
   keeps_by left contents map holds is None active leaves =
       let chosen : ChosenIn g image None = record { first = contents.first; second = contents.second; first_master = holds.first_master; second_master = holds.second_master; choice = active } in
       let none : contents.records ≡ [] = (subst (λ (o : Option ℕ). ActiveRecords g image o contents.end contents.records) active holds.active).0 in
-      subst (λ (l : List ℕ). Mounts g l map) (sym leaves.0)
-      (formatted_mounts map (is ∙ ap map_of none) chosen (subst (Torn 0 (area_size g) image) leaves.0 leaves.1))
+      subst (λ (l : List ℕ). Mounts g l map) (sym leaves)
+      (subst (Mounts g (formatted g image)) (sym (is ∙ ap map_of none)) (formatted_mounts chosen))
 
-  pub keeps_the_map : (left : List ℕ) (map : FlaggedMap) → Leaves {T = Unit {0}} {E = Unit {0}} g image left (Ok tt) → Mounts g image map → Mounts g left map
+  pub keeps_the_map : (left : List ℕ) (map : FlaggedMap) → Leaves g image left Done → Mounts g image map → Mounts g left map
   keeps_the_map left map leaves mounts =
       let contents = mounts.0 in
       let holds = mounts.1 in
       keeps_by left contents map holds mounts.2 (active_area contents.first contents.second) refl
       (leaves contents.first contents.second holds.first_master holds.second_master)
+
+  -- what was found stands for the map of the image at entry
+  pub mounts_as : (left : List ℕ) (hash_bits : ℕ) (parts : Parts) → Leaves g image left Done → IsMountOf g hash_bits left parts → MountsAs g hash_bits image left parts
+  mounts_as left hash_bits parts leaves found =
+      let held = some_contents g valid image in
+      let map = map_of held.0.records in
+      let now : Mounts g left map = keeps_the_map left map leaves (held.0, held.1, refl) in
+      record {
+        map = map;
+        mounts = (held.0, held.1, refl);
+        found = found;
+        stands = now.2 ∙ ap (λ (c : Contents). map_of c.records) (one_contents g left (prog_positive g valid) now.0 found.contents now.1 found.holds);
+      }
 
 -- ---- versions in a circle
 

@@ -6,7 +6,9 @@ use Rattle.std.specs.Ordering.{nat_cmp}
 use Rattle.std.specs.Cmp.Lexicographic.{slice_cmp}
 use Rattle.std.proofs.lemmas.Bool.{eq-eqb, eqb-true}
 use mathlib.Core.Bool.{false≢true}
+use Rattle.std.specs.Option.{ForSome}
 use Rattle.flash_core.specs.declared.geometry.Geometry.{Geometry}
+use Rattle.flash_core.specs.State.{FlashState}
 use Rattle.kv_model.specs.Crc.{key_hash}
 use Rattle.kv_model.specs.FlaggedMap.{FlaggedMap, Stored}
 use Rattle.kv_model.specs.Flags.{remove_flags}
@@ -18,9 +20,13 @@ use Rattle.area_log.specs.Areas.{end_of, first_place}
 use Rattle.area_log.specs.Listing.{Found, IsNext, found_at, listed}
 use Rattle.ram_table.specs.declared.table.Entry.{Entry}
 use Rattle.ram_table.specs.declared.table.Place.{Place}
-use Rattle.ram_table.specs.Find.{IsPlaceOf}
-use Rattle.tdb_mount.specs.Index.{IsKept, IsLinked, IsTable, IsTableOf, PlaceMap, changed, placed, places_after, places_of, record_of}
-use Rattle.tdb_mount.specs.Keys.{key_spelled, keys_in}
+use Rattle.ram_table.specs.Find.{CanFind, IsIndexOf, IsPlaceOf}
+use Rattle.ram_table.specs.Reader.{KeyMap}
+use Rattle.ram_table.specs.Table.{changed}
+use Rattle.tdb_mount.specs.Index.{IsKept, IsLinked, IsTable, IsTableOf, PlaceMap, placed, places_after, places_of, record_of}
+use Rattle.tdb_mount.specs.Keys.{key_spelled, keys_in, keys_of}
+use Rattle.tdb_mount.specs.Room.{AreIn}
+use Rattle.tdb_mount.proofs.ReaderLemmas.{mapped_from}
 use Rattle.tdb_mount.proofs.KeyLemmas.{get-tabulate, record_spells, spelled_key}
 use Rattle.tdb_mount.proofs.TableLemmas.{cases_key, get-placed, get-placed_other, get-taken, get-taken_other, not_some, places_of-append, some_is, table_by, table_with}
 
@@ -86,6 +92,16 @@ module _ (prog : ℕ) (positive : 1 ≤ prog) (image : List ℕ) (end : ℕ) whe
       kept_of key (map.get (places_of (listed prog place rs)) key) (map.get (map_of rs) key) offset found (records_linked place rs records key)
 
 -- ---- what a reader tells of them
+
+-- a table of entries in an area may be searched with the reader of its keys
+pub can_find : (s : FlashState) (area : Area) (hash_bits refusals : ℕ) (entries : List Entry) → AreIn area entries → ForSome s.image (λ image. IsIndexOf hash_bits (keys_in s.geometry area image) entries)
+    → CanFind (keys_of s area hash_bits refusals) entries
+can_find s area hash_bits refusals entries within index = record {
+  within = λ i inside. omega (arith, (within i inside).1);
+  index = λ keys told.
+      let image = mapped_from (keys_in s.geometry area) s.image keys told in
+      subst (λ (k : KeyMap). IsIndexOf hash_bits k entries) image.2 (index image.0 image.1);
+}
 
 module _ (g : Geometry) (positive : 1 ≤ g.prog) (image : List ℕ) (area : Area) where
   -- a record of the area tells its key

@@ -1,18 +1,22 @@
 -- A reader of keys over a device.
 use Rattle.std.proofs.Common.{◌≡◌, ◌⊎◌, ℕ, ◌+◌, ◌-◌, ◌^◌, true, IsTrue, List, inl, inr, refl, sym, ◌∙◌, ap, subst, arith}
-use Rattle.std.specs.Prelude.{Option, Some, None, is_some, Result, Ok, Err, IsErrAnd}
+use Rattle.std.specs.Prelude.{Option, Some, None, is_some, Result, Ok, Err, IfErr}
 use Rattle.std.specs.FinMap.{get}
 use Rattle.std.specs.Option.{option_map}
 use mathlib.Core.Bool.{false≢true}
-use Rattle.flash_core.specs.Calls.{OnlyReads}
+use Rattle.base_core.specs.Counts.{counted}
+use Rattle.flash_core.specs.Calls.{CountsStand, OnlyReads}
+use Rattle.flash_core.specs.Runs.{IsCauseOfRead, IsCounted, ReadsBy}
 use Rattle.flash_core.specs.State.{FlashState}
 use Rattle.kv_model.specs.declared.error.KvError.{KvError}
+use Rattle.kv_model.specs.declared.error.KvError.TheVariants as error
+use Rattle.record_core.specs.Endings.{kv_ended, kv_ending}
 use Rattle.area_log.specs.declared.area.Area.{Area}
 use Rattle.area_log.specs.Areas.{end_of}
 use Rattle.record_core.specs.declared.header.Header.{Header}
 use Rattle.record_core.specs.Header.{header_bytes}
-use Rattle.record_core.specs.Lookup.{HeadBroken, HeadSeen, IsHead, IsReadFault, KeyBroken, KeySeen}
-use Rattle.ram_table.specs.Reader.{CanReadKey, IsRefusal, Keeps, KeyMap, ReaderState, ReadsKey}
+use Rattle.record_core.specs.Lookup.{HeadBroken, HeadSeen, IsHead, IsReadFault, KeyBroken, KeySeen, broken_answer}
+use Rattle.ram_table.specs.Reader.{CanReadKey, HasRead as HasReadKey, IsRefusal, Keeps, KeyMap}
 use Rattle.tdb_mount.specs.Keys.{SpellsKey, key_spelled, keys_in, keys_of}
 use Rattle.kv_model.specs.Keys.{is_key}
 use Rattle.base_core.specs.Units.{up}
@@ -44,8 +48,8 @@ there_is : {X : Type 0} (o : Option X) → is_some o ≡ true → (x : X) × (o 
 there_is None is = absurd (false≢true is)
 there_is (Some x) is = (x, refl)
 
-pub reader_kept : {old new : FlashState} (area : Area) (hash_bits : ℕ) → OnlyReads old new → Keeps (keys_of old area hash_bits) (keys_of new area hash_bits)
-reader_kept area hash_bits only = record {
+pub reader_kept : {old new : FlashState} (area : Area) (hash_bits before now : ℕ) → OnlyReads old new → Keeps (keys_of old area hash_bits before) (keys_of new area hash_bits now)
+reader_kept area hash_bits before now only = record {
   bound = refl;
   hash_bits = refl;
   keys = λ i. option_map (keys_in (only.geometry i) area) (only.image i);
@@ -54,7 +58,11 @@ reader_kept area hash_bits only = record {
   sound = only.sound;
 }
 
-module _ (old new : FlashState) (area : Area) (hash_bits offset : ℕ) (can : CanReadKey (keys_of old area hash_bits) offset) where
+-- a broken header is no fault
+counts_of : {old new : FlashState} (bytes : List ℕ) (e : KvError) → e ≡ broken_answer bytes → IsCounted old new (kv_ending e) → CountsStand old new
+counts_of {old} {new} bytes e is counts = subst (λ (k : KvError). IsCounted old new (kv_ending k)) is counts
+
+module _ (old new : FlashState) (area : Area) (hash_bits before now offset : ℕ) (can : CanReadKey (keys_of old area hash_bits before) offset) where
   -- where the image is told a key is spelled
   spelled : (image : List ℕ) → old.image ≡ Some image → (key : List ℕ) × SpellsKey old.geometry.prog image (end_of area) offset key
       × (get (keys_in old.geometry area image) offset ≡ Some key)
@@ -83,19 +91,22 @@ module _ (old new : FlashState) (area : Area) (hash_bits offset : ℕ) (can : Ca
   key_spelled_is image told key read spells header head seen =
       seen ∙ sym (key_behind_header header head.head.valid (sym (head.seen.told image told) ∙ head.head.spelled) spells)
 
-  pub refusal_of_read : (e : KvError) → IsReadFault old new e ⊎ (HeadBroken old offset (end_of area - offset) e ⊎ KeyBroken old offset (end_of area - offset) e) → IsRefusal (keys_of old area hash_bits) (keys_of new area hash_bits) e
-  refusal_of_read e (inl fault) = subst (IsRefusal (keys_of old area hash_bits) (keys_of new area hash_bits)) (sym fault.is) (fault.rose, fault.unsteady)
-  refusal_of_read e (inr (inl broken)) = subst (IsRefusal (keys_of old area hash_bits) (keys_of new area hash_bits)) (sym broken.is) (
+  pub refusal_of_read : (e : KvError) → IsCounted old new (kv_ending e) → IsReadFault old new e ⊎ (HeadBroken old offset (end_of area - offset) e ⊎ KeyBroken old offset (end_of area - offset) e)
+      → IsRefusal (keys_of old area hash_bits before) (keys_of new area hash_bits now) e
+  refusal_of_read e counts (inl fault) = subst (IsRefusal (keys_of old area hash_bits before) (keys_of new area hash_bits now)) (sym fault.is) (fault.rose, fault.unsteady)
+  refusal_of_read e counts (inr (inl broken)) = subst (IsRefusal (keys_of old area hash_bits before) (keys_of new area hash_bits now)) (sym broken.is) (
     λ same. omega (arith, same),
     mapped_none (keys_in old.geometry area) old.image (λ image told.
         let key = spelled image told in
         broken.none (low_crc key.1.header) (head_spelled image told key.0 key.1 broken.bytes (broken.seen.told image told))),
+    (counts_of broken.bytes e broken.is counts).of_reads,
   )
-  refusal_of_read e (inr (inr broken)) = subst (IsRefusal (keys_of old area hash_bits) (keys_of new area hash_bits)) (sym broken.is) (
+  refusal_of_read e counts (inr (inr broken)) = subst (IsRefusal (keys_of old area hash_bits before) (keys_of new area hash_bits now)) (sym broken.is) (
     λ same. omega (arith, same),
     mapped_none (keys_in old.geometry area) old.image (λ image told.
         let key = spelled image told in
         broken.no_key (subst (λ (k : List ℕ). IsTrue (is_key k)) (sym (key_spelled_is image told key.0 broken.key key.1 broken.header broken.head (broken.seen.told image told))) key.1.is_key)),
+    (counts_of broken.head.bytes e broken.is counts).of_reads,
   )
 
   pub key_read : (out : List ℕ) → KeySeen old offset (end_of area - offset) out → (keys : KeyMap) → option_map (keys_in old.geometry area) old.image ≡ Some keys → get keys offset ≡ Some out
@@ -105,7 +116,47 @@ module _ (old new : FlashState) (area : Area) (hash_bits offset : ℕ) (can : Ca
       let same : out ≡ key.0 = key_spelled_is image.0 image.1 key.0 out key.1 seen.header seen.head (seen.seen.told image.0 image.1) in
       subst (λ (k : KeyMap). get k offset ≡ Some out) image.2 (key.2 ∙ ap (λ (k : List ℕ). Some k) (sym same))
 
-pub reads_refused : {T : Type 0} {old new : ReaderState} {offset : ℕ} {key : List ℕ} (result : Result T KvError) (e : KvError) → IsErrAnd result (λ x. x ≡ e)
-    → Keeps old new → IsRefusal old new e → ReadsKey old new offset key result
-reads_refused (Ok x) e is kept cause = absurd is
-reads_refused {T} {old} {new} (Err x) e is kept cause = record { kept = kept; bytes = λ keys told. tt; cause = subst (IsRefusal old new) (sym is) cause }
+-- a read that answered
+pub key_answered : {T : Type 0} {old new : FlashState} (area : Area) (hash_bits refusals : ℕ) (x : T) → OnlyReads old new → CountsStand old new → HasReadKey {T = T} (keys_of old area hash_bits refusals) (keys_of new area hash_bits refusals) (Ok x)
+key_answered area hash_bits refusals x only counts = record {
+  kept = reader_kept area hash_bits refusals refusals only;
+  answered = record { of_faults = counts.of_reads; of_refusals = refl };
+  refused = tt;
+  cause = tt;
+}
+
+-- and one that was refused
+pub key_refused : {T : Type 0} {old new : FlashState} (area : Area) (hash_bits before now : ℕ) (e : KvError) → OnlyReads old new → now ≡ counted before → IsRefusal (keys_of old area hash_bits before) (keys_of new area hash_bits now) e
+    → HasReadKey {T = T} (keys_of old area hash_bits before) (keys_of new area hash_bits now) (Err e)
+key_refused area hash_bits before now e only rose cause = record { kept = reader_kept area hash_bits before now only; answered = tt; refused = rose; cause = cause }
+
+-- ---- what a search does to the device
+
+-- behind which the reader's other fields may be any
+module _ (old new : FlashState) (area later : Area) (bits bits_now before now : ℕ) where
+  cause_of_search : (e : KvError) → IsRefusal (keys_of old area bits before) (keys_of new later bits_now now) e → IsCauseOfRead old new (kv_ending e)
+  cause_of_search error.ReadFault cause = cause
+  cause_of_search (error.Corrupt stored computed) cause = tt
+  cause_of_search _ cause = absurd cause
+
+  counts_of_search : (e : KvError) → new.write_faults ≡ old.write_faults → IsRefusal (keys_of old area bits before) (keys_of new later bits_now now) e → IsCounted old new (kv_ending e)
+  counts_of_search error.ReadFault same cause = same
+  counts_of_search (error.Corrupt stored computed) same cause = record { of_reads = cause.2; of_writes = same }
+  counts_of_search _ same cause = absurd cause
+
+  pub search_reads : {T : Type 0} (result : Result T KvError) → OnlyReads old new → HasReadKey (keys_of old area bits before) (keys_of new later bits_now now) result → ReadsBy old new (kv_ended result)
+  search_reads (Ok x) only read = record { kept = only; cause = tt; counts = record { of_reads = read.answered.of_faults; of_writes = only.write_faults } }
+  search_reads (Err e) only read = record {
+    kept = only;
+    cause = cause_of_search e read.cause;
+    counts = counts_of_search e only.write_faults read.cause;
+  }
+
+  same_refusal : (e : KvError) → IsRefusal (keys_of old area bits before) (keys_of new later bits_now now) e → IsRefusal (keys_of old area bits 0) (keys_of new area bits 0) e
+  same_refusal error.ReadFault cause = cause
+  same_refusal (error.Corrupt stored computed) cause = cause
+  same_refusal _ cause = absurd cause
+
+  pub search_cause : {T : Type 0} (result : Result T KvError) → IfErr result (IsRefusal (keys_of old area bits before) (keys_of new later bits_now now)) → IfErr result (IsRefusal (keys_of old area bits 0) (keys_of new area bits 0))
+  search_cause (Ok x) cause = tt
+  search_cause (Err e) cause = same_refusal e cause

@@ -1,6 +1,6 @@
 -- How a table changes with one record more.
 use Rattle.std.proofs.Common.{◌≡◌, ◌≢◌, ◌⊎◌, ℕ, ◌+◌, ◌-◌, ◌<◌, ◌≤◌, Bool, true, false, cond, List, [], ◌∷◌, ◌++◌, length, inl, inr, ⊎_elim, refl, sym, ◌∙◌, ap, subst, arith}
-use Rattle.std.specs.Prelude.{if◌then◌else◌, IsTrue, Option, Some, None, is_some, slice_set}
+use Rattle.std.specs.Prelude.{◌||◌, if◌then◌else◌, IsTrue, Option, Some, None, is_some, slice_set}
 use Rattle.std.specs.FinMap as map
 use Rattle.std.specs.List.{insert, remove}
 use Rattle.std.specs.Option.{unwrap_or}
@@ -22,10 +22,10 @@ use Rattle.ram_table.specs.declared.table.Entry.{Entry}
 use Rattle.ram_table.specs.declared.table.Place.{Place}
 use Rattle.ram_table.specs.Find.{IsIndexOf, IsPlaceOf, key_at}
 use Rattle.ram_table.specs.Reader.{KeyMap}
-use Rattle.ram_table.specs.Table.{entry_at}
-use Rattle.ram_table.proofs.ChainLemmas.{IsChain, chain_insert, chain_remove}
+use Rattle.ram_table.specs.Table.{changed_by, entry_at}
+use Rattle.ram_table.proofs.ChainLemmas.{IsChain, chain_insert, chain_remove, chain_set}
 use Rattle.ram_table.proofs.IndexLemmas.{index_insert, index_remove, index_replace, one_entry}
-use Rattle.tdb_mount.specs.Index.{HasEntry, IsTableOf, PlaceMap, changed_by, placed, places_after, places_of}
+use Rattle.tdb_mount.specs.Index.{HasEntry, IsTableOf, PlaceMap, placed, places_after, places_of}
 use Rattle.tdb_mount.specs.Room.{AreIn}
 
 -- ---- entries that lie in an area
@@ -47,6 +47,31 @@ pub AreIn-insert : (area : Area) (entries : List Entry) (at hash offset : ℕ) �
 AreIn-insert area entries at hash offset within inside from to =
     (chain_insert no_entry (LiesIn area) (λ e f. Unit {0}) entries (all_in area entries within) at (record { hash = hash; offset = offset }) inside (from, to)
     (λ i lt inside. tt) (λ i le inside. tt)).each
+
+pub AreIn-set : (area : Area) (entries : List Entry) (at : ℕ) (e : Entry) → AreIn area entries → at < length entries → area.base ≤ e.offset → e.offset + 24 ≤ end_of area → AreIn area (slice_set entries at e)
+AreIn-set area entries at e within inside from to =
+    (chain_set no_entry (LiesIn area) (λ e f. Unit {0}) entries (all_in area entries within) at e inside (from, to) (λ y r. tt) (λ y r. tt)).each
+
+-- once a record of the area was taken in
+pub AreIn-changed : (area : Area) (entries : List Entry) (at hash offset : ℕ) (is_remove found : Bool) → AreIn area entries → at ≤ length entries → (found ≡ true → at < length entries)
+    → area.base ≤ offset → offset + 24 ≤ end_of area → AreIn area (changed_by entries at hash offset is_remove found)
+AreIn-changed area entries at hash offset true true within inside there from to = AreIn-remove area entries at within (there refl)
+AreIn-changed area entries at hash offset true false within inside there from to = within
+AreIn-changed area entries at hash offset false true within inside there from to = AreIn-set area entries at (record { hash = (entry_at entries at).hash; offset = offset }) within (there refl) from to
+AreIn-changed area entries at hash offset false false within inside there from to = AreIn-insert area entries at hash offset within inside from to
+
+pub length-changed : (entries : List Entry) (at hash offset : ℕ) (is_remove found : Bool) → at ≤ length entries → (found ≡ true → at < length entries) → length (changed_by entries at hash offset is_remove found) ≤ length entries + 1
+length-changed entries at hash offset true true inside there = omega (arith, length-remove entries at (there refl))
+length-changed entries at hash offset true false inside there = omega arith
+length-changed entries at hash offset false true inside there = omega (arith, length-set entries at (record { hash = (entry_at entries at).hash; offset = offset }))
+length-changed entries at hash offset false false inside there = omega (arith, length-insert entries at (record { hash = hash; offset = offset }) inside)
+
+-- no entry comes where none is new
+pub length-changed_old : (entries : List Entry) (at hash offset : ℕ) (is_remove found : Bool) → (is_remove || found) ≡ true → (found ≡ true → at < length entries) → length (changed_by entries at hash offset is_remove found) ≤ length entries
+length-changed_old entries at hash offset true true old there = omega (arith, length-remove entries at (there refl))
+length-changed_old entries at hash offset true false old there = omega arith
+length-changed_old entries at hash offset false true old there = omega (arith, length-set entries at (record { hash = (entry_at entries at).hash; offset = offset }))
+length-changed_old entries at hash offset false false old there = absurd (false≢true old)
 
 -- ---- keys in a map of places
 

@@ -1,11 +1,13 @@
 -- What a format leaves.
-use Rattle.std.specs.Prelude.{◌≡◌, ◌⊎◌, ℕ, List, replicate, Option, Some, None, Result, OnOk}
+use Rattle.std.specs.Prelude.{◌≡◌, ◌⊎◌, ℕ, List, replicate, Option, Some, None}
 use Rattle.flash_core.specs.declared.geometry.Geometry.{Geometry}
 use Rattle.flash_core.specs.Images.{put, Torn}
 use Rattle.flash_core.specs.Erases.{ErasesUnits}
+use Rattle.flash_core.specs.Runs.{Ending, Done, WriteFailed}
 use Rattle.flash_core.specs.Sizes.{area_size}
 use Rattle.flash_core.specs.State.{DeviceCall}
-use Rattle.record_core.specs.Mounts.{MasterAt, active_area}
+use Rattle.kv_model.specs.FlaggedMap.{FlaggedMap}
+use Rattle.record_core.specs.Mounts.{MasterAt, Mounts, active_area}
 use Rattle.record_core.specs.Record.{master_bytes}
 use Rattle.record_core.specs.Written.{AppendsRecord, master_of}
 
@@ -31,12 +33,18 @@ pub record HasNoArea (g : Geometry) (image : List ℕ) : Type 0 where
 abbrev pub MountsBy : Geometry → List ℕ → Option DeviceCall → List ℕ → Type 0
 MountsBy g image call c = ((call ≡ None) × (c ≡ image)) ⊎ (HasNoArea g image × Formats g image call c)
 
--- What a mount leaves of an image: all of it where some area is valid. Else it is formatted, and after a refusal it
--- stands outside the first area.
-abbrev pub LeavesBy : {T E : Type 0} → Geometry → List ℕ → List ℕ → Result T E → Option ℕ → Type 0
-LeavesBy g image left result None = OnOk result (left ≡ formatted g image) × Torn 0 (area_size g) image left
-LeavesBy g image left result (Some area) = left ≡ image
+-- What a mount that ended so leaves of an image: all of it where some area is valid. Else it is formatted; where a write
+-- failed it stands outside the first area, and where anything else did it is as before or formatted.
+abbrev pub LeavesBy : Geometry → List ℕ → List ℕ → Ending → Option ℕ → Type 0
+LeavesBy g image left ending (Some area) = left ≡ image
+LeavesBy g image left Done None = left ≡ formatted g image
+LeavesBy g image left WriteFailed None = Torn 0 (area_size g) image left
+LeavesBy g image left ending None = (left ≡ image) ⊎ (left ≡ formatted g image)
 
-abbrev pub Leaves : {T E : Type 0} → Geometry → List ℕ → List ℕ → Result T E → Type 0
-Leaves g image left result = (first second : Option ℕ) → MasterAt g.prog image 0 first → MasterAt g.prog image (area_size g) second
-    → LeavesBy g image left result (active_area first second)
+abbrev pub Leaves : Geometry → List ℕ → List ℕ → Ending → Type 0
+Leaves g image left ending = (first second : Option ℕ) → MasterAt g.prog image 0 first → MasterAt g.prog image (area_size g) second
+    → LeavesBy g image left ending (active_area first second)
+
+-- that image mounts to the map to which this one does
+abbrev pub MountsAlike : Geometry → List ℕ → List ℕ → Type 0
+MountsAlike g image c = (map : FlaggedMap) → Mounts g image map → Mounts g c map

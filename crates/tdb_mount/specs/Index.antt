@@ -1,7 +1,6 @@
 -- The places of keys, and a table of them.
-use Rattle.std.specs.Prelude.{◌≡◌, ◌↔◌, ℕ, ◌+◌, ◌<◌, ◌≤◌, ◌==◌, if◌then◌else◌, Bool, true, false, List, [], ◌∷◌, length, slice_set, Option, Some, None}
+use Rattle.std.specs.Prelude.{◌≡◌, ◌↔◌, ℕ, ◌+◌, ◌<◌, ◌≤◌, ◌==◌, if◌then◌else◌, List, [], ◌∷◌, length, Option, Some, None}
 use Rattle.std.specs.FinMap as map
-use Rattle.std.specs.List.{insert, remove}
 use Rattle.std.specs.Ordering.{nat_cmp}
 use Rattle.std.specs.Cmp.Lexicographic.{slice_cmp}
 use Rattle.kv_model.specs.Flags.{remove_flags}
@@ -10,7 +9,6 @@ use Rattle.kv_model.specs.Write.{Write}
 use Rattle.record_core.specs.Log.{IsRecordAt, extent}
 use Rattle.area_log.specs.Listing.{Found}
 use Rattle.ram_table.specs.declared.table.Entry.{Entry}
-use Rattle.ram_table.specs.declared.table.Place.{Place}
 use Rattle.ram_table.specs.Find.{IsIndexOf, key_at}
 use Rattle.ram_table.specs.Reader.{KeyMap}
 use Rattle.ram_table.specs.Table.{entry_at}
@@ -47,17 +45,6 @@ pub record IsTableOf (hash_bits : ℕ) (keys : KeyMap) (places : PlaceMap) (entr
 pub record IsTable (hash_bits : ℕ) (places : PlaceMap) (entries : List Entry) : Type 0 where
   pub keys : KeyMap
   pub is : IsTableOf hash_bits keys places entries
-
--- The entries once a record was seen whose key has this place, where it is found or would stand: a remove takes the
--- key's entry out, and another record's place becomes its offset.
-abbrev pub changed_by : List Entry → ℕ → ℕ → ℕ → Bool → Bool → List Entry
-changed_by entries at hash offset true true = remove entries at
-changed_by entries at hash offset true false = entries
-changed_by entries at hash offset false true = slice_set entries at (record { hash = (entry_at entries at).hash; offset = offset })
-changed_by entries at hash offset false false = insert entries at (record { hash = hash; offset = offset })
-
-abbrev pub changed : List Entry → Place → ℕ → ℕ → Bool → List Entry
-changed entries place hash offset is_remove = changed_by entries place.at hash offset is_remove place.found
 
 -- the record by which a key has this value
 abbrev pub record_of : List ℕ → Stored → Write

@@ -7,6 +7,7 @@ use Rattle.std.specs.Str.{bytes_eq}
 use Rattle.flash_core.specs.declared.geometry.Geometry.{Geometry}
 use Rattle.flash_core.specs.Images.{part}
 use Rattle.flash_core.specs.State.{FlashState}
+use Rattle.kv_model.specs.declared.limits.TheConstants.{MAX_KEY, MAX_VALUE}
 use Rattle.kv_model.specs.Flags.{remove_flags}
 use Rattle.kv_model.specs.Keys.{is_key}
 use Rattle.base_core.specs.Units.{up}
@@ -38,7 +39,7 @@ fields_of bytes = record {
 unfoldable pub is_header : Header → Bool
 is_header header =
     (header.flags == 0 || header.flags == 1 || header.flags == remove_flags)
-    && nat_le 1 header.key_size && nat_le header.key_size 128 && nat_le header.value_size 65592
+    && nat_le 1 header.key_size && nat_le header.key_size MAX_KEY && nat_le header.value_size MAX_VALUE
     && (not (header.flags == remove_flags) || header.value_size == 0)
 
 -- the key behind this header, where it is that of this place and its record would end at or before this end
@@ -66,12 +67,13 @@ tabulate f (suc n) = noted n (f n) (tabulate f n)
 abbrev pub keys_in : Geometry → Area → List ℕ → KeyMap
 keys_in g area image = tabulate (key_spelled g.prog image (end_of area)) (end_of area)
 
--- what a reader of the keys of an area is to a table
-abbrev pub keys_of : FlashState → Area → ℕ → ReaderState
-keys_of s area hash_bits = record {
+-- what a reader of the keys of an area, which has refused so many reads, is to a table
+abbrev pub keys_of : FlashState → Area → ℕ → ℕ → ReaderState
+keys_of s area hash_bits refusals = record {
   bound = end_of area - 24;
   hash_bits = hash_bits;
   read_faults = s.read_faults;
+  refusals = refusals;
   steady = s.steady;
   sound = s.sound;
   keys = option_map (keys_in s.geometry area) s.image;

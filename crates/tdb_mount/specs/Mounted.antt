@@ -3,8 +3,9 @@ use Rattle.std.specs.Prelude.{◌≡◌, ◌↔◌, ℕ, ◌-◌, ◌≤◌, Lis
 use Rattle.std.specs.FinMap.{get}
 use Rattle.flash_core.specs.declared.geometry.Geometry.{Geometry}
 use Rattle.flash_core.specs.Images.{IsErased}
+use Rattle.kv_model.specs.FlaggedMap.{FlaggedMap}
 use Rattle.kv_model.specs.Write.{map_of}
-use Rattle.record_core.specs.Mounts.{Contents, Holds, active_area}
+use Rattle.record_core.specs.Mounts.{Contents, Holds, Mounts, active_area}
 use Rattle.area_log.specs.Areas.{end_of, first_place, IsEnd}
 use Rattle.area_log.specs.Listing.{listed}
 use Rattle.tdb_mount.specs.declared.mount.Parts.{Parts}
@@ -32,3 +33,10 @@ pub record IsMountOf (g : Geometry) (hash_bits : ℕ) (image : List ℕ) (parts 
   pub linked : (key : List ℕ) → IsLinked g.prog image parts.end key
       (get (places_of (listed g.prog (first_place g (area_of g parts.active)) contents.records)) key) (get (map_of contents.records) key)
   pub clean : IsTrue parts.clean ↔ IsErased image parts.end (end_of (area_of g parts.active) - parts.end)
+
+-- A mount of this image, which left that one, gave these parts: they stand for the map to which the image at entry mounts.
+pub record MountsAs (g : Geometry) (hash_bits : ℕ) (image left : List ℕ) (parts : Parts) : Type 0 where
+  pub map : FlaggedMap
+  pub mounts : Mounts g image map
+  pub found : IsMountOf g hash_bits left parts
+  pub stands : map ≡ map_of found.contents.records

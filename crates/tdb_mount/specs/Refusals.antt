@@ -1,5 +1,5 @@
 -- Why a part of a mount was refused.
-use Rattle.std.specs.Prelude.{◌≡◌, ◌⊎◌, IsTrue, Result}
+use Rattle.std.specs.Prelude.{◌≡◌, ◌⊎◌, ℕ, IsTrue, Result}
 use Rattle.base_core.specs.Counts.{Rose}
 use Rattle.flash_core.specs.Runs.{Ending, ReadFailed, WriteFailed, OutOfMemory, Refused as Other, ending_by}
 use Rattle.flash_core.specs.State.{FlashState}
@@ -21,6 +21,13 @@ IsRefusal old new error.ReadFault = Rose old.read_faults new.read_faults × (IsT
 IsRefusal old new error.WriteFault = Rose old.write_faults new.write_faults × (IsTrue old.sound → ⊥)
 IsRefusal old new error.Memory = Unit {0}
 IsRefusal old new e = ⊥
+
+-- the number of an error of a mount
+abbrev pub mount_number : MountError → ℕ
+mount_number mount.BadGeometry = 1
+mount_number mount.ReadFault = 2
+mount_number mount.WriteFault = 3
+mount_number mount.Memory = 4
 
 -- how each error of a mount ends it
 abbrev pub mount_ending : MountError → Ending

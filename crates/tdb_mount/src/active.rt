@@ -1,7 +1,7 @@
 //! Which of two areas is active.
 ghost use Rattle.std.specs.Prelude.{◌≡◌, ◌≤◌, length, IfOk, IfSome, Some};
+ghost use Rattle.std.specs.Option.{ForSome};
 ghost use Rattle.flash_core.specs.Sizes.{IsValid, area_size};
-ghost use Rattle.flash_core.specs.State.{IfTold};
 ghost use Rattle.record_core.specs.Mounts.{MasterAt};
 ghost use Rattle.record_core.specs.Reading.{HasRead};
 ghost use Rattle.tdb_mount.specs.Choice.{IsChoice};

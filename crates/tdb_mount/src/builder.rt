@@ -1,14 +1,16 @@
 //! The table of an area's records, built as a walk shows them.
-ghost use Rattle.std.specs.Prelude.{◌≡◌, ◌⊎◌, ◌+◌, ◌<◌, ◌≤◌, ◌==◌, ℕ, List, [], length, true, IfOk, IfErr, OnOk, IsTrue};
-ghost use Rattle.flash_core.specs.Calls.{OnlyReads};
+ghost use Rattle.std.specs.Prelude.{◌≡◌, ◌+◌, ◌<◌, ◌≤◌, ℕ, [], length, IfOk, IfErr, OnOk};
+ghost use Rattle.std.specs.Option.{ForSome};
+ghost use Rattle.base_core.specs.Counts.{counted};
+ghost use Rattle.flash_core.specs.Runs.{ReadsBy};
 ghost use Rattle.flash_core.specs.Sizes.{IsValid};
-ghost use Rattle.flash_core.specs.State.{IfTold};
-ghost use Rattle.kv_model.specs.Crc.{key_hash};
 ghost use Rattle.kv_model.specs.declared.error.KvError.TheVariants.{Memory};
+ghost use Rattle.record_core.specs.Endings.{kv_ended};
 ghost use Rattle.area_log.specs.Areas.{end_of, IsAreaOf};
-ghost use Rattle.ram_table.specs.Find.{IsIndexOf, IsPlaceOf};
+ghost use Rattle.area_log.specs.Listing.{CountsRefusals};
+ghost use Rattle.ram_table.specs.Find.{CanFind, IsInside, IsPlaceOf};
 ghost use Rattle.ram_table.specs.Reader.{IsRefusal};
-ghost use Rattle.tdb_mount.specs.Index.{changed};
+ghost use Rattle.ram_table.specs.Table.{changed};
 ghost use Rattle.tdb_mount.specs.Keys.{keys_in, keys_of};
 ghost use Rattle.tdb_mount.specs.Room.{AreIn, HasRoomFor};
 
@@ -22,15 +24,14 @@ use std::alloc::Global;
 use std::marker::{Brand, PhantomData};
 use std::sync::ledger::{Blank, Ledger};
 
-/// Where the key stands in the table, whose entries are of this area, or would stand. It refuses as
-/// `RamTable::find` does over the keys of the area.
-pub fn place_of<L: Ledger, F: Flash>(
+// As `place_of`, with a ledger for the counter that `find` is handed.
+fn place_by<L: Ledger, F: Flash>(
+    blank: Blank,
     table: &RamTable,
     flash: &mut F,
     area: Area,
     hash_bits: u8,
     key: &Key,
-    blank: Blank,
 ) -> Result<Place, KvError>
     requires name { blank.name ≡ L.name }
     requires parts { blank.parts ≡ L.parts }
@@ -38,26 +39,48 @@ pub fn place_of<L: Ledger, F: Flash>(
     requires valid { IsValid (F.state flash.old).geometry }
     requires area { IsAreaOf (F.state flash.old).geometry area }
     requires bits { hash_bits ≤ 32 }
-    requires within { AreIn area table.now.entries }
-    requires index { IfTold (F.state flash.old).image (λ image.
-        IsIndexOf hash_bits (keys_in (F.state flash.old).geometry area image) table.now.entries) }
-    ensures reads { OnlyReads (F.state flash.old) (F.state flash.new) }
-    ensures inside { IfOk result (λ place. place.at ≤ length table.now.entries) }
-    ensures there { IfOk result (λ place. place.found ≡ true
-        → place.at < length table.now.entries) }
-    ensures place { IfTold (F.state flash.old).image (λ image. IfOk result (λ place.
+    requires can { CanFind (keys_of (F.state flash.old) area hash_bits 0) table.now.entries }
+    ensures reads { ReadsBy (F.state flash.old) (F.state flash.new) (kv_ended result) }
+    ensures inside { IfOk result (IsInside table.now.entries) }
+    ensures place { ForSome (F.state flash.old).image (λ image. IfOk result (λ place.
         IsPlaceOf hash_bits (keys_in (F.state flash.old).geometry area image) table.now.entries
         key.now place)) }
-    ensures cause { IfErr result (IsRefusal (keys_of (F.state flash.old) area hash_bits)
-        (keys_of (F.state flash.new) area hash_bits)) }
+    ensures cause { IfErr result (IsRefusal (keys_of (F.state flash.old) area hash_bits 0)
+        (keys_of (F.state flash.new) area hash_bits 0)) }
 {
     let mut reader = DeviceKeys {
         flash,
         area,
         hash_bits,
+        refusals: 0,
     };
     let mut steps = Steps::<L>::new(blank);
     table.find(&mut reader, hash_of(key, hash_bits), key, &mut steps)
+}
+
+/// Where the key stands in the table, whose entries are of this area, or would stand. It refuses as
+/// `RamTable::find` does over the keys of the area: `ReadFault` comes exactly where the count of
+/// read faults rose, and `Corrupt` only from a device that doesn't tell its bytes.
+pub fn place_of<F: Flash>(
+    table: &RamTable,
+    flash: &mut F,
+    area: Area,
+    hash_bits: u8,
+    key: &Key,
+) -> Result<Place, KvError>
+    requires valid { IsValid (F.state flash.old).geometry }
+    requires area { IsAreaOf (F.state flash.old).geometry area }
+    requires bits { hash_bits ≤ 32 }
+    requires can { CanFind (keys_of (F.state flash.old) area hash_bits 0) table.now.entries }
+    ensures reads { ReadsBy (F.state flash.old) (F.state flash.new) (kv_ended result) }
+    ensures inside { IfOk result (IsInside table.now.entries) }
+    ensures place { ForSome (F.state flash.old).image (λ image. IfOk result (λ place.
+        IsPlaceOf hash_bits (keys_in (F.state flash.old).geometry area image) table.now.entries
+        key.now place)) }
+    ensures cause { IfErr result (IsRefusal (keys_of (F.state flash.old) area hash_bits 0)
+        (keys_of (F.state flash.new) area hash_bits 0)) }
+{
+    place_by::<Brand, F>(Blank::new(1), table, flash, area, hash_bits, key)
 }
 
 /// A number of hash bits that stays the same over a walk.
@@ -77,6 +100,7 @@ pub struct Builder<B: HashBits> {
     spare: RamTable,
     area: Area,
     hash_bits: u8,
+    refusals: u64,
     fixed: PhantomData<B>,
     ghost same_bits: { hash_bits ≡ B.bits },
     ghost bits: { hash_bits ≤ 32 },
@@ -101,6 +125,7 @@ impl<B: HashBits> Builder<B> {
             spare: RamTable::new(alloc),
             area,
             hash_bits,
+            refusals: 0,
             fixed: PhantomData,
         }
     }
@@ -115,9 +140,23 @@ impl<B: HashBits> Builder<B> {
             spare,
             area: _,
             hash_bits: _,
+            refusals: _,
             fixed: _,
         } = self;
         (table, spare)
+    }
+
+    // Counts a refusal, which is handed on.
+    fn refuse(&mut self, error: KvError) -> KvError
+        ensures same { result ≡ error }
+        ensures table { self.new.table ≡ self.old.table }
+        ensures spare { self.new.spare ≡ self.old.spare }
+        ensures area { self.new.area ≡ self.old.area }
+        ensures bits { self.new.hash_bits ≡ self.old.hash_bits }
+        ensures refusals { self.new.refusals ≡ counted self.old.refusals }
+    {
+        self.refusals = self.refusals.saturating_add(1);
+        error
     }
 
     // Makes room for one entry more in both tables.
@@ -128,38 +167,36 @@ impl<B: HashBits> Builder<B> {
             ≤ length self.new.spare.entries + self.new.spare.spare) }
         ensures area { self.new.area ≡ self.old.area }
         ensures bits { self.new.hash_bits ≡ self.old.hash_bits }
+        ensures refusals { CountsRefusals self.old.refusals self.new.refusals result }
         ensures only { IfErr result (λ e. e ≡ Memory) }
     {
         let Some(entries) = self.table.len().checked_add(1) else {
-            return Err(KvError::Memory);
+            return Err(self.refuse(KvError::Memory));
         };
         if self.table.reserve_one().is_err() || self.spare.reserve(entries).is_err() {
-            return Err(KvError::Memory);
+            return Err(self.refuse(KvError::Memory));
         }
         Ok(())
     }
 
     // Takes in a record at `at`, whose key has this place and this hash.
     fn take_in(&mut self, place: Place, hash: u32, at: u32, is_remove: bool) -> Result<(), KvError>
-        requires inside { place.at ≤ length self.old.table.entries }
-        requires there { place.found ≡ true → place.at < length self.old.table.entries }
+        requires inside { IsInside self.old.table.entries place }
         requires from { self.old.area.base ≤ at }
         requires to { at + 24 ≤ end_of self.old.area }
         ensures entries { OnOk result (self.new.table.entries
             ≡ changed self.old.table.entries place hash at is_remove) }
         ensures area { self.new.area ≡ self.old.area }
         ensures bits { self.new.hash_bits ≡ self.old.hash_bits }
+        ensures refusals { CountsRefusals self.old.refusals self.new.refusals result }
         ensures only { IfErr result (λ e. e ≡ Memory) }
     {
-        match (is_remove, place.found) {
-            (true, true) => self.table.remove(place.at),
-            (true, false) => {}
-            (false, true) => self.table.replace(place.at, at),
-            (false, false) => {
-                self.reserve()?;
-                self.table.insert(place.at, hash, at);
-            }
+        if is_remove || place.found {
+            self.table.take_in(place, hash, at, is_remove);
+            return Ok(());
         }
+        self.reserve()?;
+        self.table.take_in(place, hash, at, is_remove);
         Ok(())
     }
 }
@@ -170,7 +207,10 @@ impl<B: HashBits> Visitor for Builder<B> {
 
     ghost area = { λ builder. builder.area };
 
-    ghost stands_for = { λ builder list. IsTable builder.hash_bits (places_of list) builder.table.entries };
+    ghost stands_for = { λ builder list.
+        IsTable builder.hash_bits (places_of list) builder.table.entries };
+
+    ghost refusals = { λ builder. builder.refusals };
 
     ghost ran_out = { λ _. Unit {0} };
 
@@ -181,15 +221,14 @@ impl<B: HashBits> Visitor for Builder<B> {
         key: &Key,
         header: &Header,
     ) -> Result<(), KvError> {
-        let blank = Blank::new(1);
-        match place_of::<Brand, F>(&self.table, flash, self.area, self.hash_bits, key, blank) {
+        match place_of(&self.table, flash, self.area, self.hash_bits, key) {
             Ok(place) => {
                 let hash = hash_of(key, self.hash_bits);
                 self.take_in(place, hash, at, header.flags == REMOVE)
             }
             // The header that the entry stands for can't be read any more: its record is left out.
             Err(KvError::Corrupt { .. }) => Ok(()),
-            Err(error) => Err(error),
+            Err(error) => Err(self.refuse(error)),
         }
     }
 }

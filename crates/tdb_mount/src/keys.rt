@@ -11,13 +11,16 @@ use record_core::read_key_at;
 
 /// Reads the keys of the records of one area of a device by their places, which are its offsets. A
 /// read makes no program and no erase. `Corrupt` comes where the header breaks a rule, its record
-/// would end behind the area, or what stands behind it is no key.
+/// would end behind the area, or what stands behind it is no key. It counts the reads that it
+/// refused.
 #[derive(Drop)]
 pub struct DeviceKeys<'a, F: Flash> {
     pub flash: &'a mut F,
     pub area: Area,
     /// How many low bits of a key's CRC are its hash.
     pub hash_bits: u8,
+    /// How many reads were refused. The count stands still at its last value.
+    pub refusals: u64,
     ghost valid: { IsValid (F.state flash.now).geometry },
     ghost inside: { end_of area ≤ size_of (F.state flash.now).geometry },
     ghost least: { 24 ≤ end_of area },
@@ -30,15 +33,24 @@ impl<F: Flash> KeyReader for DeviceKeys<'_, F> {
     ghost use Rattle.flash_core.proofs.KeptLaws.{OnlyReads-refl, OnlyReads-trans};
     ghost use Rattle.tdb_mount.specs.Keys.{keys_of};
 
-    ghost state = { λ reader. keys_of (F.state reader.flash.now) reader.area reader.hash_bits };
+    ghost state = { λ reader.
+        keys_of (F.state reader.flash.now) reader.area reader.hash_bits reader.refusals };
 
     ghost may_follow = { λ a b. OnlyReads (F.state a.flash.now) (F.state b.flash.now)
         × (b.flash.ghost_name ≡ a.flash.ghost_name) };
 
     fn key_at(&mut self, offset: u32, out: &mut Key) -> Result<(), KvError> {
         let end = self.area.base + self.area.size;
-        *out = read_key_at(self.flash, offset, end)?;
-        Ok(())
+        match read_key_at(self.flash, offset, end) {
+            Ok(key) => {
+                *out = key;
+                Ok(())
+            }
+            Err(error) => {
+                self.refusals = self.refusals.saturating_add(1);
+                Err(error)
+            }
+        }
     }
 
     ghost stays = { λ a. (OnlyReads-refl (F.state a.flash.now), refl) };

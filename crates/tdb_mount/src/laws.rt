@@ -1,7 +1,8 @@
 // Laws of the definitions. Each is a function with nothing to do: its contract is the law.
-ghost use Rattle.std.specs.Prelude.{◌≡◌, ◌≢◌, ◌↔◌, ◌+◌, ◌<◌, ◌≤◌, ◌%◌, ◌^◌, ◌++◌, ◌∷◌, [], ℕ, List, length, Some, None, Ok};
+ghost use Rattle.std.specs.Prelude.{◌≡◌, ◌≢◌, ◌↔◌, ◌+◌, ◌<◌, ◌≤◌, ◌%◌, ◌^◌, ◌++◌, ◌∷◌, [], ℕ, List, length, Some, None};
 ghost use Rattle.std.specs.FinMap.{get};
 ghost use Rattle.flash_core.specs.declared.geometry.Geometry.{Geometry};
+ghost use Rattle.flash_core.specs.Runs.{Done};
 ghost use Rattle.flash_core.specs.Sizes.{IsValid, size_of};
 ghost use Rattle.kv_model.specs.FlaggedMap.{FlaggedMap};
 ghost use Rattle.kv_model.specs.Flags.{remove_flags};
@@ -19,8 +20,7 @@ ghost use Rattle.tdb_mount.specs.Keys.{SpellsKey, keys_in};
 pub fn mounting_keeps_the_map()
     ensures { (g : Geometry) (image left : List ℕ) (map : FlaggedMap) → IsValid g
         → length image ≡ size_of g
-        → Leaves {T = Unit {0}} {E = Unit {0}} g image left (Ok tt) → Mounts g image map
-        → Mounts g left map }
+        → Leaves g image left Done → Mounts g image map → Mounts g left map }
 {}
 
 /// Versions count in a circle: behind 65,535 comes 0.

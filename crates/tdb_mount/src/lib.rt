@@ -21,4 +21,8 @@ pub use laws::{
 pub use mount::{MountError, Parts, area_at, mount_parts};
 
 #[cfg(test)]
+mod fickle_tests;
+#[cfg(test)]
+mod moment_tests;
+#[cfg(test)]
 mod tests;

@@ -1,17 +1,18 @@
 //! Mounting a device.
 ghost use Rattle.std.specs.Prelude.{◌≡◌, ◌≢◌, ◌↔◌, ◌+◌, ◌*◌, ◌≤◌, ℕ, length, IfOk, IfSome, IfErr};
-ghost use Rattle.flash_core.specs.Runs.{RunsBy};
+ghost use Rattle.std.specs.Option.{ForSome};
+ghost use Rattle.flash_core.specs.Runs.{AnswersFaults, RunsBy};
 ghost use Rattle.flash_core.specs.Sizes.{IsValid, area_size};
-ghost use Rattle.flash_core.specs.State.{IfTold};
 ghost use Rattle.kv_model.specs.declared.error.KvError.{KvError};
+ghost use Rattle.record_core.specs.CutMoments.{Cuts};
 ghost use Rattle.record_core.specs.Endings.{kv_ended};
 ghost use Rattle.record_core.specs.Reading.{HasRead};
 ghost use Rattle.area_log.specs.Areas.{IsAreaOf};
 ghost use Rattle.area_log.specs.Reading.{Visits};
 ghost use Rattle.tdb_mount.specs.Choice.{ChosenIn, IsActiveIn};
-ghost use Rattle.tdb_mount.specs.Format.{Leaves, MountsBy};
-ghost use Rattle.tdb_mount.specs.Mounted.{IsMountOf, IsSafe};
-ghost use Rattle.tdb_mount.specs.Refusals.{IsRefusal, IsWalkRefusal, mount_ended, refusal_of};
+ghost use Rattle.tdb_mount.specs.Format.{Leaves, MountsAlike, MountsBy};
+ghost use Rattle.tdb_mount.specs.Mounted.{IsMountOf, IsSafe, MountsAs};
+ghost use Rattle.tdb_mount.specs.Refusals.{IsRefusal, IsWalkRefusal, mount_ended, mount_number, refusal_of};
 ghost use Rattle.tdb_mount.specs.Room.{area_of};
 
 use crate::active::{Active, choose};
@@ -58,6 +59,20 @@ pub enum MountError {
     Memory = 4,
 }
 
+impl MountError {
+    /// The number of the error, from 1 to 4.
+    pub fn number(self) -> u8
+        ensures { result ≡ mount_number self }
+    {
+        match self {
+            MountError::BadGeometry => 1,
+            MountError::ReadFault => 2,
+            MountError::WriteFault => 3,
+            MountError::Memory => 4,
+        }
+    }
+}
+
 // What a refusal of a part is to the mount.
 fn refused(error: KvError) -> MountError
     ensures { result ≡ refusal_of error }
@@ -90,7 +105,7 @@ fn read_active<F: Flash>(flash: &mut F, work: &mut [u8]) -> Result<Option<Active
     requires least { 64 ≤ length work.old }
     ensures reads { HasRead (F.state flash.old) (F.state flash.new) result }
     ensures number { IfOk result (λ found. IfSome found (λ active. active.number ≤ 1)) }
-    ensures chosen { IfTold (F.state flash.old).image
+    ensures chosen { ForSome (F.state flash.old).image
         (λ image. IfOk result (ChosenIn (F.state flash.old).geometry image)) }
 {
     let geometry = flash.geometry();
@@ -108,10 +123,10 @@ fn find_active<F: Flash>(flash: &mut F, work: &mut [u8]) -> Result<Active, KvErr
         (MountsBy (F.state flash.old).geometry) (kv_ended result) }
     ensures cause { IfErr result (IsRefusal (F.state flash.old) (F.state flash.new)) }
     ensures number { IfOk result (λ active. active.number ≤ 1) }
-    ensures leaves { IfTold (F.state flash.old).image
-        (λ image. IfTold (F.state flash.new).image (λ left.
-        Leaves (F.state flash.old).geometry image left result)) }
-    ensures active { IfTold (F.state flash.new).image
+    ensures leaves { ForSome (F.state flash.old).image
+        (λ image. ForSome (F.state flash.new).image (λ left.
+        Leaves (F.state flash.old).geometry image left (kv_ended result))) }
+    ensures active { ForSome (F.state flash.new).image
         (λ image. IfOk result (IsActiveIn (F.state flash.old).geometry image)) }
 {
     match read_active(flash, work)? {
@@ -140,12 +155,12 @@ fn walk<B: HashBits, F: Flash>(
     requires bits { hash_bits ≤ 32 }
     requires same { hash_bits ≡ B.bits }
     requires number { active.number ≤ 1 }
-    requires active { IfTold (F.state flash.old).image
+    requires active { ForSome (F.state flash.old).image
         (λ image. IsActiveIn (F.state flash.old).geometry image active) }
     ensures visits { Visits (F.state flash.old) (F.state flash.new) result }
     ensures cause { IfErr result (IsWalkRefusal (F.state flash.old) (F.state flash.new)) }
     ensures safe { IfOk result (IsSafe (F.state flash.old).geometry) }
-    ensures mounted { IfTold (F.state flash.old).image
+    ensures mounted { ForSome (F.state flash.old).image
         (λ image. IfOk result (IsMountOf (F.state flash.old).geometry hash_bits image)) }
 {
     let area = area_at(flash.geometry(), active.number);
@@ -171,10 +186,10 @@ fn mount_valid<F: Flash>(alloc: Global, flash: &mut F, hash_bits: u8) -> Result<
         (MountsBy (F.state flash.old).geometry) (kv_ended result) }
     ensures cause { IfErr result (IsRefusal (F.state flash.old) (F.state flash.new)) }
     ensures safe { IfOk result (IsSafe (F.state flash.old).geometry) }
-    ensures leaves { IfTold (F.state flash.old).image
-        (λ image. IfTold (F.state flash.new).image (λ left.
-        Leaves (F.state flash.old).geometry image left result)) }
-    ensures mounted { IfTold (F.state flash.new).image
+    ensures leaves { ForSome (F.state flash.old).image
+        (λ image. ForSome (F.state flash.new).image (λ left.
+        Leaves (F.state flash.old).geometry image left (kv_ended result))) }
+    ensures mounted { ForSome (F.state flash.new).image
         (λ image. IfOk result (IsMountOf (F.state flash.old).geometry hash_bits image)) }
 {
     let mut work = match vec![in alloc; 0u8; WORK_SIZE] {
@@ -190,10 +205,15 @@ fn mount_valid<F: Flash>(alloc: Global, flash: &mut F, hash_bits: u8) -> Result<
 /// first one is formatted, and nothing else is ever written.
 ///
 /// `BadGeometry` comes exactly where the geometry isn't valid, and then nothing is touched.
-/// `ReadFault` and `WriteFault` come only where that count of the device rose, `ReadFault` on no
-/// steady device and neither on a sound one. The mount takes memory: a work buffer of 4,096 bytes,
-/// the table, and a spare table of equal capacity. Where a device that tells nothing of its bytes
-/// gives others for a key than before, that record is left out of the table.
+/// `ReadFault` and `WriteFault` come where that count of the device rose, and only there,
+/// `ReadFault` on no steady device and neither on a sound one. After a read fault or want of memory
+/// the device is as before, or wholly formatted. The mount takes memory: a work buffer of 4,096
+/// bytes, the table, and a spare table of equal capacity.
+///
+/// At each moment of the mount a power cut leaves an image that mounts to the map to which the one
+/// at entry does, as far as chance goes; the first record that is there by chance stands at the
+/// first byte of the program or erase that was cut off. Where a device that tells nothing of its
+/// bytes gives others for a key than before, that record is left out of the table.
 pub fn mount_parts<F: Flash>(
     alloc: Global,
     flash: &mut F,
@@ -206,13 +226,19 @@ pub fn mount_parts<F: Flash>(
     ensures untouched { (IsValid (F.state flash.old).geometry → ⊥) → flash.new ≡ flash.old }
     ensures runs { RunsBy (F.state flash.old) (F.state flash.new)
         (MountsBy (F.state flash.old).geometry) (mount_ended result) }
+    ensures faults { AnswersFaults (F.state flash.old) (F.state flash.new)
+        MountError.ReadFault MountError.WriteFault result }
     ensures safe { IfOk result (IsSafe (F.state flash.old).geometry) }
-    // what the device holds afterwards, where it tells its image
-    ensures mounted { IfTold (F.state flash.new).image
-        (λ image. IfOk result (IsMountOf (F.state flash.old).geometry hash_bits image)) }
-    ensures leaves { IfTold (F.state flash.old).image
-        (λ image. IfTold (F.state flash.new).image (λ left.
-        Leaves (F.state flash.old).geometry image left result)) }
+    // what a power cut leaves, and what stands, where the device tells its image
+    ensures cuts { RunsBy (F.state flash.old) (F.state flash.new)
+        (Cuts (F.state flash.old).geometry (MountsAlike (F.state flash.old).geometry))
+        (mount_ended result) }
+    ensures mounted { ForSome (F.state flash.old).image (λ image.
+        ForSome (F.state flash.new).image (λ left. IfOk result
+        (MountsAs (F.state flash.old).geometry hash_bits image left))) }
+    ensures leaves { ForSome (F.state flash.old).image (λ image.
+        ForSome (F.state flash.new).image (λ left.
+        Leaves (F.state flash.old).geometry image left (mount_ended result))) }
 {
     if !flash.geometry().is_valid() {
         return Err(MountError::BadGeometry);

@@ -8,20 +8,20 @@ use std::alloc::Global;
 use std::process::Abort;
 use std::test::Fail;
 
-const SMALL: Geometry = Geometry {
+pub(crate) const SMALL: Geometry = Geometry {
     prog: 8,
     erase: 64,
     units_per_area: 4,
 };
 
 // Of version 1.
-const MASTER: [u8; 40] = [
+pub(crate) const MASTER: [u8; 40] = [
     0x4b, 0x56, 0x52, 0x31, 0x18, 0, 1, 0, 0, 0, 0, 0, 4, 0, 0, 0, 8, 0, 0, 0, 0xaa, 0x37, 0xf7,
     0x1e, 0x54, 0x44, 0x42, 0x53, 1, 0, 1, 0, 0, 0, 0, 0, 0xff, 0xff, 0xff, 0xff,
 ];
 
 // `a` is set to 01, `b` to 02, `a` again to 0304, `b` is removed, and `c` is set to nothing.
-const LOG: [u8; 160] = [
+pub(crate) const LOG: [u8; 160] = [
     0x4b, 0x56, 0x52, 0x31, 0x18, 0, 1, 0, 0, 0, 0, 0, 1, 0, 0, 0, 1, 0, 0, 0, 0xd4, 0xbd, 0xaa,
     0x11, 0x61, 1, 0xff, 0xff, 0xff, 0xff, 0xff, 0xff, 0x4b, 0x56, 0x52, 0x31, 0x18, 0, 1, 0, 0, 0,
     0, 0, 1, 0, 0, 0, 1, 0, 0, 0, 0xad, 0xbf, 0x8e, 0xa3, 0x62, 2, 0xff, 0xff, 0xff, 0xff, 0xff,
@@ -130,6 +130,15 @@ fn two_entries(rt: &impl Abort, parts: &Parts) -> [(u32, u32); 2] {
     [parts.table.entry(0), parts.table.entry(1)]
 }
 
+// The places of the first two entries of a table, or 0 for those that it lacks.
+pub(crate) fn offsets_of(parts: &Parts) -> [u32; 2] {
+    let mut offsets = [0; 2];
+    for at in 0..parts.table.len().min(2) {
+        offsets[at as usize] = parts.table.entry(at).1;
+    }
+    offsets
+}
+
 #[test]
 fn the_last_record_of_a_key_decides(rt: HostRuntime) -> Result<(), Fail> {
     for (hash_bits, want) in [
@@ -207,6 +216,6 @@ fn a_bad_geometry_and_a_failed_read_are_told_apart(rt: HostRuntime) -> Result<()
             Err(error) => assert_eq!(rt; error, want),
         }
     }
-    assert_eq!(rt; MountError::Memory as u8, 4);
+    assert_eq!(rt; MountError::Memory as u8, MountError::Memory.number());
     Ok(())
 }

@@ -1,4 +1,4 @@
-use Rattle.std.proofs.Common.{◌≡◌, ℕ, ◌+◌, ◌-◌, ◌^◌, ◌<◌, List, length, refl, sym, ◌∙◌, ap, arith, inr, rules}
+use Rattle.std.proofs.Common.{ℕ, ◌+◌, ◌-◌, ◌^◌, ◌<◌, List, length, sym, ◌∙◌, ap, arith, inr, rules}
 use Rattle.flash_core.specs.Images.{part}
 use Rattle.flash_core.proofs.KeptLaws.{OnlyReads-trans}
 use Rattle.kv_model.specs.declared.error.KvError.{KvError}

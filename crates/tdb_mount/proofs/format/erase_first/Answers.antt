@@ -1,9 +1,9 @@
-use Rattle.std.proofs.Common.{◌≡◌, ℕ, ◌*◌, sym, ap, subst}
+use Rattle.std.proofs.Common.{ℕ, ap, subst}
 use Rattle.flash_core.specs.declared.flash.FlashFault.{FlashFault}
 use Rattle.flash_core.specs.declared.geometry.Geometry.{Geometry}
-use Rattle.flash_core.specs.Erases.{AreUnits, ErasesUnits}
+use Rattle.flash_core.specs.Erases.{ErasesUnits}
 use Rattle.flash_core.specs.Runs.{RunsBy, fault_ending}
-use Rattle.tdb_mount.proofs.FormatLemmas.{erases_format, first_units}
+use Rattle.tdb_mount.proofs.FormatLemmas.{erases_format}
 use Rattle.tdb_mount.proofs.format.erase_first.Goals as goal
 
 pub returns-in-Err-clause-runs : goal.returns-in-Err-clause-runs

@@ -1,4 +1,3 @@
-use Rattle.std.proofs.Common.{sym, ◌∙◌, subst}
 use Rattle.record_core.proofs.EndingLemmas.{handed_error}
 use Rattle.tdb_mount.proofs.FormatLemmas.{format_within, master_format, room_erased}
 use Rattle.tdb_mount.proofs.format.format.Goals as goal

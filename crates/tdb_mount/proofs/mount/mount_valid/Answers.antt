@@ -2,14 +2,15 @@ use Rattle.std.proofs.Common.{sym, ◌∙◌, subst}
 use Rattle.std.specs.Prelude.{Some}
 use Rattle.flash_core.specs.declared.geometry.Geometry.{Geometry}
 use Rattle.flash_core.proofs.KeptLaws.{Keeps-trans}
+use Rattle.record_core.specs.Endings.{kv_ended}
 use Rattle.tdb_mount.specs.Choice.{ChosenIn}
-use Rattle.tdb_mount.proofs.MountLemmas.{cause_since, found_leaves, refused_leaves}
+use Rattle.tdb_mount.proofs.MountLemmas.{cause_since, found_leaves, leaves_handed}
 use Rattle.tdb_mount.proofs.RunLemmas.{walk_cause, walk_runs}
 use Rattle.tdb_mount.proofs.mount.mount_valid.Goals as goal
 
 pub returns-in_err-active-clause-leaves : goal.returns-in_err-active-clause-leaves
 returns-in_err-active-clause-leaves g c image told left stands =
-    refused_leaves (g.F.Flash.state c.args.flash.now).geometry image left c.in_err-active.field-0.0 c.from_residual.result c.from_residual.ensures.0
+    leaves_handed (g.F.Flash.state c.args.flash.now).geometry image left c.from_residual.result c.in_err-active.field-0.0 c.from_residual.ensures.1
     (c.in_err-active.ensures.leaves image told left stands)
 
 pub walk-requires-clause-active : goal.walk-requires-clause-active
@@ -26,5 +27,5 @@ returns-clause-cause g c =
 
 pub returns-clause-leaves : goal.returns-clause-leaves
 returns-clause-leaves g c image told left stands =
-    found_leaves (g.F.Flash.state c.args.flash.now).geometry image left c.in_ok-active.active c.walk.result
+    found_leaves (g.F.Flash.state c.args.flash.now).geometry c.requires.valid image left ((g.met.F.Flash.lawful c.args.flash.now).sized image told) (kv_ended c.walk.result)
     (c.in_ok-active.ensures.leaves image told left (sym c.walk.ensures.visits.image ∙ stands))

@@ -2,8 +2,9 @@ use Rattle.std.proofs.Common.{◌≡◌, ℕ, sym, ◌∙◌, ap, subst}
 use Rattle.flash_core.specs.declared.geometry.Geometry.{Geometry}
 use Rattle.flash_core.proofs.GeometryLaws.{prog_positive}
 use Rattle.flash_core.proofs.KeptLaws.{OnlyReads-trans}
+use Rattle.flash_core.proofs.RunLaws.{counts_same}
 use Rattle.area_log.specs.declared.area.Area.{Area}
-use Rattle.area_log.proofs.ScanLemmas.{reads_of, visits_reads}
+use Rattle.area_log.proofs.ScanLemmas.{reads_of, visits_after, visits_handed, visits_read, visits_reads}
 use Rattle.ram_table.specs.Table.{TableState}
 use Rattle.tdb_mount.specs.Index.{IsTable, places_of}
 use Rattle.tdb_mount.specs.Room.{AreIn, HasRoomFor, area_of}
@@ -13,8 +14,20 @@ use Rattle.tdb_mount.proofs.mount.walk.Goals as goal
 pub scan-requires-clause-none : goal.scan-requires-clause-none
 scan-requires-clause-none g c = empty_table c.new-builder.result.hash_bits c.new-builder.result.table.entries c.new-builder.ensures.none
 
+pub returns-in_err-end-clause-visits : goal.returns-in_err-end-clause-visits
+returns-in_err-end-clause-visits g c = visits_handed c.from_residual.result c.in_err-end.field-0.0 c.from_residual.ensures.1 c.in_err-end.ensures.visits
+
+pub returns-in_err-clean-clause-visits : goal.returns-in_err-clean-clause-visits
+returns-in_err-clean-clause-visits g c =
+    let visit = c.in_ok-end.ensures.visits in
+    visits_handed c.from_residual-in_err-clean.result c.in_err-clean.field-0.0 c.from_residual-in_err-clean.ensures.1
+    (visits_after _ (reads_of _ visit) visit.counts (visits_read _ c.in_err-clean.ensures.reads))
+
 pub returns-clause-visits : goal.returns-clause-visits
-returns-clause-visits g c = visits_reads _ (OnlyReads-trans (reads_of _ c.in_ok-end.ensures.visits) c.in_ok-clean.ensures.reads.kept)
+returns-clause-visits g c =
+    let visit = c.in_ok-end.ensures.visits in
+    let read = c.in_ok-clean.ensures.reads in
+    visits_reads _ (OnlyReads-trans (reads_of _ visit) read.kept) (counts_same visit.counts read.counts)
 
 pub returns-clause-safe : goal.returns-clause-safe
 returns-clause-safe g c =

@@ -1,22 +1,27 @@
-use Rattle.tdb_mount.proofs.ReaderLemmas.{key_read, reader_kept, reads_refused, refusal_of_read}
+use Rattle.std.proofs.Common.{◌≡◌, arith}
+use Rattle.base_core.specs.Counts.{counted}
+use Rattle.tdb_mount.proofs.ReaderLemmas.{key_answered, key_read, key_refused, refusal_of_read}
 use Rattle.tdb_mount.proofs.keys.DeviceKeysKeyReader.key_at.Goals as goal
 
-pub returns-in_err-out-clause-reads : goal.returns-in_err-out-clause-reads
-returns-in_err-out-clause-reads g c =
+pub returns-in-Err-clause-reads : goal.returns-in-Err-clause-reads
+returns-in-Err-clause-reads g c =
     let reader = c.args.self.now in
     let old = g.F.Flash.state reader.flash.now in
     let new = g.F.Flash.state c.read_key_at.new.flash in
-    reads_refused c.from_residual.result c.in_err-out.field-0.0 c.from_residual.ensures.1
-    (reader_kept reader.area reader.hash_bits c.in_err-out.ensures.reads)
-    (refusal_of_read old new reader.area reader.hash_bits c.args.offset c.requires c.in_err-out.field-0.0 c.in_err-out.ensures.answer)
+    let now = c.saturating_add-self.result in
+    let rose : now ≡ counted reader.refusals = omega (arith, c.saturating_add-self.ensures) in
+    record {
+      read = key_refused reader.area reader.hash_bits reader.refusals now c.in-Err.error c.in-Err.ensures.reads rose
+          (refusal_of_read old new reader.area reader.hash_bits reader.refusals now c.args.offset c.requires c.in-Err.error c.in-Err.ensures.counts c.in-Err.ensures.answer);
+      bytes = λ keys told. tt;
+    }
 
-pub returns-clause-reads : goal.returns-clause-reads
-returns-clause-reads g c =
+pub returns-in-Ok-clause-reads : goal.returns-in-Ok-clause-reads
+returns-in-Ok-clause-reads g c =
     let reader = c.args.self.now in
     let old = g.F.Flash.state reader.flash.now in
     let new = g.F.Flash.state c.read_key_at.new.flash in
     record {
-      kept = reader_kept reader.area reader.hash_bits c.in_ok-out.ensures.reads;
-      bytes = key_read old new reader.area reader.hash_bits c.args.offset c.requires c.in_ok-out.field-0 c.in_ok-out.ensures.answer;
-      cause = tt;
+      read = key_answered reader.area reader.hash_bits reader.refusals tt c.in-Ok.ensures.reads c.in-Ok.ensures.counts;
+      bytes = key_read old new reader.area reader.hash_bits reader.refusals reader.refusals c.args.offset c.requires c.in-Ok.key c.in-Ok.ensures.answer;
     }
