@@ -1,9 +1,11 @@
 -- What a collection does to a device.
-use Rattle.std.proofs.Common.{◌≡◌, ◌≢◌, ◌⊎◌, ℕ, zero, suc, ◌+◌, ◌-◌, ◌<◌, ◌≤◌, ◌==◌, if◌then◌else◌, Bool, true, false, List, [], ◌∷◌, ◌++◌, length, replicate, refl, sym, ◌∙◌, ap, subst, arith, inl, inr, ⊎_elim, append_assoc, append-nil, eq-eqb}
-use Rattle.std.specs.Prelude.{Option, Some, None}
+use Rattle.std.proofs.Common.{◌≡◌, ◌≢◌, ◌⊎◌, ℕ, zero, suc, ◌+◌, ◌-◌, ◌<◌, ◌≤◌, ◌==◌, if◌then◌else◌, Bool, true, false, List, [], ◌∷◌, ◌++◌, length, min, replicate, take, drop, refl, sym, ◌∙◌, ap, subst, arith, inl, inr, ⊎_elim, append_assoc, append-nil, eq-eqb}
+use Rattle.std.specs.Prelude.{Option, Some, None, Result, Ok, Err, IfOk, IfErr}
+use Rattle.std.specs.List.{remove}
+use Rattle.std.proofs.lemmas.List.Edits.{get_or-remove_above, get_or-remove_below, length-remove}
 use Rattle.std.specs.Option.{ForSome}
-use Rattle.std.proofs.lemmas.Bool.{ne_eqb}
-use Rattle.std.proofs.lemmas.List.{length-replicate}
+use Rattle.std.proofs.lemmas.Bool.{cases_lt, ne_eqb}
+use Rattle.std.proofs.lemmas.List.{get_or-drop, get_or-take, length-drop, length-replicate, length-take}
 use Rattle.std.proofs.Math.Nat.{zero-mod}
 use Rattle.base_core.specs.Sizes.{master_size}
 use Rattle.base_core.specs.Units.{IsMultipleOf, up}
@@ -25,6 +27,8 @@ use Rattle.flash_core.proofs.RunLaws.{runs_then, runs_weakened}
 use Rattle.kv_model.specs.declared.error.KvError.{KvError}
 use Rattle.kv_model.specs.Write.{Write}
 use Rattle.record_core.specs.Cuts.{base_of}
+use Rattle.record_core.specs.Log.{extent}
+use Rattle.record_core.proofs.LogLemmas.{extent-positive}
 use Rattle.record_core.specs.Record.{master_bytes}
 use Rattle.record_core.specs.Renewal.{BehindHeader, FillsArea, HeaderLast, RenewsArea, behind_header, blanked}
 use Rattle.record_core.specs.Written.{AppendsRecord, master_of}
@@ -33,12 +37,13 @@ use Rattle.record_core.proofs.TornLemmas.{one_base, zero_base}
 use Rattle.area_log.specs.declared.area.Area.{Area}
 use Rattle.area_log.specs.Areas.{end_of, first_place, IsAreaOf, IsEnd, IsRange}
 use Rattle.area_log.proofs.AreaLemmas.{area_fits}
+use Rattle.area_log.proofs.ScanLemmas.{walk_begins}
 use Rattle.ram_table.specs.declared.table.Entry.{Entry}
 use Rattle.area_collect.specs.declared.entries.Route.{Route}
-use Rattle.area_collect.specs.Copies.{AreIn, AreRead, Copied, Copy, HasCopiedMore, IsNotCopied, IsRoute, end_behind, moved, spellings}
+use Rattle.area_collect.specs.Copies.{AreIn, AreRead, Copied, Copy, HasCopiedMore, IsNotCopied, IsRoute, end_behind, moved, segment, spellings}
 use Rattle.area_collect.specs.Collection.{Collects, HasCopied, IsWhole, copy_of, number_of, with_copies, with_master}
-use Rattle.area_collect.proofs.EntryLemmas.{all_read_since, not_copied_since}
-use Rattle.area_collect.proofs.PayloadLemmas.{some_is}
+use Rattle.area_collect.proofs.EntryLemmas.{all_read_since, no_entry, not_copied_since}
+use Rattle.area_collect.proofs.PayloadLemmas.{erased_behind, some_is}
 
 -- ---- areas by their numbers
 
@@ -229,3 +234,85 @@ whole_made {old} copy done version copied image now told mid_told = record {
   read = copied.read;
   is = ap (λ (l : List ℕ). put l copy.route.to.base (master_bytes old.geometry.prog version)) (some_is now (with_copies old.geometry copy.route.to image copied.records) (sym mid_told ∙ copied.written image told));
 }
+
+-- ---- the parts of a collection
+
+-- the first copy's place
+module _ (g : Geometry) (valid : IsValid g) (area : Area) (is : IsAreaOf g area) (place : ℕ) (place_is : place ≡ first_place g area) where
+  pub start_end : (h : Geometry) → h ≡ g → IsEnd h area place
+  start_end h same = subst (λ (x : Geometry). IsEnd x area place) (sym same) (subst (IsEnd g area) (sym place_is) (walk_begins g area valid is))
+
+  pub start_inside : place ≤ end_of area
+  start_inside = let first = walk_begins g area valid is in omega (arith, place_is, first.inside.to)
+
+module _ {old mid : FlashState} (lawful : IsLawful old) (valid : IsValid old.geometry) (area : Area) (is : IsAreaOf old.geometry area) (place : ℕ) (place_is : place ≡ first_place old.geometry area) where
+  pub area_erased : Keeps old mid → ForSome old.image (λ image. mid.image ≡ Some (erased_from image area.base (area_size old.geometry))) → ForSome mid.image (λ image. IsErased image area.base (area_size old.geometry))
+  area_erased kept erased image told =
+      let was = told_before kept told in
+      subst (λ (l : List ℕ). IsErased l area.base (area_size old.geometry)) (some_is (erased_from was.0 area.base (area_size old.geometry)) image (sym (erased was.0 was.1) ∙ told))
+      (IsErased-erased was.0 area.base (area_size old.geometry) (omega (arith, area_fits old.geometry area is, is.size, lawful.sized was.0 was.1)))
+
+  -- from there to the area's end all is erased
+  pub start_erased : Keeps old mid → ForSome old.image (λ image. mid.image ≡ Some (erased_from image area.base (area_size old.geometry))) → ForSome mid.image (λ image. IsErased image place (end_of area - place))
+  start_erased kept erased image told =
+      IsErased-within image area.base (area_size old.geometry) place (end_of area - place) (area_erased kept erased image told) (omega (arith, place_is)) (omega (arith, is.size, start_inside old.geometry valid area is place place_is))
+
+  -- and before it, behind copies
+  pub master_erased : {last : FlashState} → Keeps old mid → ForSome old.image (λ image. mid.image ≡ Some (erased_from image area.base (area_size old.geometry))) → RunsBy mid last (Within place (end_of area - place)) Done → last.geometry ≡ old.geometry
+      → ForSome last.image (λ image. IsErased image area.base (master_size last.geometry.prog))
+  master_erased {last} kept erased runs same = subst (λ (g : Geometry). ForSome last.image (λ image. IsErased image area.base (master_size g.prog))) (sym same)
+      (erased_behind place (end_of area - place) area.base (master_size old.geometry.prog) runs (inl (omega (arith, place_is)))
+      (λ image told. IsErased-within image area.base (area_size old.geometry) area.base (master_size old.geometry.prog) (area_erased kept erased image told) (omega arith) (omega (arith, valid.master_fits))))
+
+-- nothing outside the area differs
+module _ {old new : FlashState} {ending : Ending} (lawful : IsLawful old) (valid : IsValid old.geometry) (area : Area) (is : IsAreaOf old.geometry area) where
+  pub fill_within : RunsBy old new (FillsArea old.geometry (number_of area)) ending → RunsBy old new (Within area.base (area_size old.geometry)) ending
+  fill_within runs = runs_weakened (Within area.base (area_size old.geometry)) (λ image told call c fills. fills_within lawful valid area is image (lawful.sized image told) call c fills) runs
+
+  pub renew_within : (W : List ℕ → List ℕ → Type 0) → RunsBy old new (λ image call c. RenewsArea old.geometry (number_of area) (W image) image call c) ending → RunsBy old new (Within area.base (area_size old.geometry)) ending
+  renew_within W runs = runs_weakened (Within area.base (area_size old.geometry)) (λ image told call c renews. renews_within lawful valid area is (W image) image (lawful.sized image told) call c renews) runs
+
+-- the copies' headers lie in the area
+module _ (s : FlashState) (positive : 1 ≤ s.geometry.prog) (route : Route) where
+  pub moved_in : (end : ℕ) (es : List Entry) (rs : List Write) → route.to.base ≤ end → end ≤ end_of route.to → AreRead s route end es rs → AreIn route.to (moved s.geometry.prog end es rs)
+  moved_in end [] rs from to read i inside = absurd (omega arith)
+  moved_in end (e ∷ es) [] from to read i inside = absurd read
+  moved_in end (e ∷ es) (r ∷ rs) from to read zero inside = record { from = from; to = omega (arith, read.0.within, extent-positive s.geometry.prog positive r, to) }
+  moved_in end (e ∷ es) (r ∷ rs) from to read (suc i) inside = moved_in (end + extent s.geometry.prog r) es rs (omega arith) (omega (arith, read.0.within, to)) read.1 i (omega (arith, inside))
+
+pub places_in : {old new : FlashState} {finish : List ℕ → List ℕ} (valid : IsValid old.geometry) (copy : Copy) (done : Copied) → IsAreaOf old.geometry copy.route.to → HasCopied old new copy done finish → AreIn copy.route.to done.entries
+places_in {old} valid copy done is copied =
+    let first = walk_begins old.geometry copy.route.to valid is in
+    subst (AreIn copy.route.to) (sym copied.entries_are) (moved_in old (prog_positive old.geometry valid) copy.route (first_place old.geometry copy.route.to) copy.entries copied.records (omega arith) first.inside.to copied.read)
+
+-- copies of other entries, or behind others, are the same where these are
+pub same_copies : {mid new : FlashState} (route : Route) (place : ℕ) (es fs before : List Entry) (done : Copied) → es ≡ fs → before ≡ [] → HasCopiedMore mid new (record { route = route; entries = es }) (record { end = place; entries = before }) done
+    → HasCopiedMore mid new (record { route = route; entries = fs }) (record { end = place; entries = [] }) done
+same_copies {mid} {new} route place es fs before done same none copied =
+    subst (λ (l : List Entry). HasCopiedMore mid new (record { route = route; entries = l }) (record { end = place; entries = [] }) done) same
+    (subst (λ (l : List Entry). HasCopiedMore mid new (record { route = route; entries = es }) (record { end = place; entries = l }) done) none copied)
+
+pub if_ok_map : {T E : Type 0} {P Q : T → Type 0} (result : Result T E) → ((x : T) → P x → Q x) → IfOk result P → IfOk result Q
+if_ok_map (Ok x) implies holds = implies x holds
+if_ok_map (Err e) implies holds = tt
+
+pub if_err_map : {T E : Type 0} {P Q : E → Type 0} (result : Result T E) → ((e : E) → P e → Q e) → IfErr result P → IfErr result Q
+if_err_map (Ok x) implies holds = tt
+if_err_map (Err e) implies holds = implies e holds
+
+-- ---- entries of a part of a table
+
+module _ (area : Area) (all : List Entry) (in_area : AreIn area all) where
+  pub segment_in : (first last : ℕ) → last ≤ length all → AreIn area (segment all first last)
+  segment_in first last within i inside =
+      let long : length (take (last - first) (drop first all)) ≡ min (last - first) (length (drop first all)) = length-take (last - first) (drop first all) in
+      let rest : length (drop first all) ≡ length all - first = length-drop first all in
+      subst (λ (e : Entry). IsRange area e.offset 24)
+      (sym (get_or-take (last - first) (drop first all) i no_entry (omega (arith, inside, long)) ∙ get_or-drop first all i no_entry))
+      (in_area (first + i) (omega (arith, inside, long, rest)))
+
+  pub remove_in : (at : ℕ) → at < length all → AreIn area (remove all at)
+  remove_in at within i inside = elim (cases_lt i at) [
+    | inl below ↦ subst (λ (e : Entry). IsRange area e.offset 24) (sym (get_or-remove_below all at no_entry i below within)) (in_area i (omega (arith, below, within)))
+    | inr above ↦ subst (λ (e : Entry). IsRange area e.offset 24) (sym (get_or-remove_above all at no_entry i above within)) (in_area (i + 1) (omega (arith, inside, length-remove all at within)))
+  ]

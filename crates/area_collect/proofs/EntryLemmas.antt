@@ -34,7 +34,7 @@ use Rattle.area_collect.specs.Copies.{AreIn, AreRead, Copied, Copy, HasCopiedMor
 use Rattle.area_collect.proofs.PayloadLemmas.{seen_before, some_is}
 
 -- what stands for an entry past the end
-abbrev no_entry : Entry
+abbrev pub no_entry : Entry
 no_entry = record { hash = 0; offset = 0 }
 
 pub handed_cause : {T : Type 0} (P : KvError → Type 0) (result : Result T KvError) (e : KvError) → IsErrAnd result (λ x. x ≡ e) → P e → IfErr result P

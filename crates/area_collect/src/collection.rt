@@ -149,8 +149,9 @@ pub fn copy_without<F: Flash>(
         from: *from,
         to: *to,
     };
+    let last = table.len();
     empty(spare);
     let start = erase_area(flash, to)?;
     let end = copy_entries(flash, route, table, 0, left_out, start, spare, work)?;
-    copy_entries(flash, route, table, left_out + 1, table.len(), end, spare, work)
+    copy_entries(flash, route, table, left_out + 1, last, end, spare, work)
 }

@@ -101,6 +101,8 @@ pub(crate) fn copy_entries<F: Flash>(
     ensures end { IfOk result (IsEnd (F.state flash.old).geometry route.to) }
     ensures erased { IfOk result (λ behind. ForSome (F.state flash.new).image (λ image.
         IsErased image behind (end_of route.to - behind))) }
+    ensures count { IfOk result (λ _.
+        length spare.new.entries ≡ length spare.old.entries + (last - first)) }
     ensures room { length spare.new.entries + spare.new.spare
         ≡ length spare.old.entries + spare.old.spare }
 {
