@@ -1,3 +1,4 @@
 pub mod Copies
 pub mod Payload
 pub mod Collection
+pub mod Kept

@@ -7,6 +7,8 @@
 mod collection;
 mod copy;
 mod entries;
+mod laws;
 mod payload;
 
 pub use collection::{collect, copy_without};
+pub use laws::last_records_stand_for_the_map;

@@ -8,6 +8,7 @@ use Rattle.area_collect.specs.Copies.{Copied, HasCopiedMore, IsNotCopied, IsRout
 use Rattle.area_collect.specs.Collection.{HasCopied, IsWhole, copy_of, number_of}
 use Rattle.area_collect.proofs.CollectLemmas.{Filling, collected_made, copies_made, erased_filling, fill_renews, fill_runs, fill_within, filling_more, master_erased, master_renews, not_copied_before, places_in, renew_within, same_copies, start_end, start_erased, start_inside, whole_made}
 use Rattle.area_collect.proofs.EntryLemmas.{copied_more_records, handed_cause, not_copied_ahead, not_copied_more, segment_all, segment_without}
+use Rattle.area_collect.proofs.KeptLemmas.{keeps_runs, only_faults}
 use Rattle.area_collect.proofs.collection.collect.Goals as goal
 
 pub returns-in_err-start-clause-runs : goal.returns-in_err-start-clause-runs
@@ -276,4 +277,70 @@ returns-clause-places g c =
     let route : Route = record { from = from; to = to } in
     let is_route : IsRoute old.geometry route = record { from = c.requires.from; to = area; apart = c.requires.apart } in
     places_in valid (copy_of from to entries) _ area (returns-clause-copied g c)
+
+
+pub returns-in_err-end-clause-told : goal.returns-in_err-end-clause-told
+returns-in_err-end-clause-told g c image told records can =
+    let old = g.F.Flash.state c.args.flash.now in
+    let from : Area = c.args.from.now in
+    let to : Area = c.args.to.now in
+    let entries : List Entry = c.args.table.now.entries in
+    let lawful = g.met.F.Flash.lawful c.args.flash.now in
+    let valid = c.requires.can.valid in
+    let area = c.requires.can.is_area in
+    let route : Route = record { from = from; to = to } in
+    let is_route : IsRoute old.geometry route = record { from = c.requires.from; to = area; apart = c.requires.apart } in
+    only_faults old valid image told (copy_of from to entries) records can c.from_residual-in_err-end.result (returns-in_err-end-clause-cause g c)
+
+pub returns-in_err-start-clause-keeps : goal.returns-in_err-start-clause-keeps
+returns-in_err-start-clause-keeps g c =
+    let old = g.F.Flash.state c.args.flash.now in
+    let from : Area = c.args.from.now in
+    let to : Area = c.args.to.now in
+    let entries : List Entry = c.args.table.now.entries in
+    let lawful = g.met.F.Flash.lawful c.args.flash.now in
+    let valid = c.requires.can.valid in
+    let area = c.requires.can.is_area in
+    let route : Route = record { from = from; to = to } in
+    let is_route : IsRoute old.geometry route = record { from = c.requires.from; to = area; apart = c.requires.apart } in
+    keeps_runs lawful valid route is_route entries c.args.version (returns-in_err-start-clause-runs g c)
+
+pub returns-in_err-end-clause-keeps : goal.returns-in_err-end-clause-keeps
+returns-in_err-end-clause-keeps g c =
+    let old = g.F.Flash.state c.args.flash.now in
+    let from : Area = c.args.from.now in
+    let to : Area = c.args.to.now in
+    let entries : List Entry = c.args.table.now.entries in
+    let lawful = g.met.F.Flash.lawful c.args.flash.now in
+    let valid = c.requires.can.valid in
+    let area = c.requires.can.is_area in
+    let route : Route = record { from = from; to = to } in
+    let is_route : IsRoute old.geometry route = record { from = c.requires.from; to = area; apart = c.requires.apart } in
+    keeps_runs lawful valid route is_route entries c.args.version (returns-in_err-end-clause-runs g c)
+
+pub returns-in_err-write_master-clause-keeps : goal.returns-in_err-write_master-clause-keeps
+returns-in_err-write_master-clause-keeps g c =
+    let old = g.F.Flash.state c.args.flash.now in
+    let from : Area = c.args.from.now in
+    let to : Area = c.args.to.now in
+    let entries : List Entry = c.args.table.now.entries in
+    let lawful = g.met.F.Flash.lawful c.args.flash.now in
+    let valid = c.requires.can.valid in
+    let area = c.requires.can.is_area in
+    let route : Route = record { from = from; to = to } in
+    let is_route : IsRoute old.geometry route = record { from = c.requires.from; to = area; apart = c.requires.apart } in
+    keeps_runs lawful valid route is_route entries c.args.version (returns-in_err-write_master-clause-runs g c)
+
+pub returns-clause-keeps : goal.returns-clause-keeps
+returns-clause-keeps g c =
+    let old = g.F.Flash.state c.args.flash.now in
+    let from : Area = c.args.from.now in
+    let to : Area = c.args.to.now in
+    let entries : List Entry = c.args.table.now.entries in
+    let lawful = g.met.F.Flash.lawful c.args.flash.now in
+    let valid = c.requires.can.valid in
+    let area = c.requires.can.is_area in
+    let route : Route = record { from = from; to = to } in
+    let is_route : IsRoute old.geometry route = record { from = c.requires.from; to = area; apart = c.requires.apart } in
+    keeps_runs lawful valid route is_route entries c.args.version (returns-clause-runs g c)
 
