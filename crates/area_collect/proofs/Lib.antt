@@ -1,0 +1,6 @@
+pub mod CollectLemmas
+pub mod CopyLemmas
+pub mod EntryLemmas
+pub mod KeptLemmas
+pub mod MapLemmas
+pub mod PayloadLemmas

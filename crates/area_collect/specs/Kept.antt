@@ -1,0 +1,71 @@
+-- What a collection keeps.
+use Rattle.std.specs.Prelude.{◌≡◌, ◌≢◌, ◌⊎◌, ℕ, ◌+◌, ◌%◌, ◌^◌, ◌≤◌, List, [], ◌∷◌, Option, Some, None}
+use Rattle.std.specs.FinMap.{get}
+use Rattle.flash_core.specs.declared.geometry.Geometry.{Geometry}
+use Rattle.flash_core.specs.State.{DeviceCall, FlashState}
+use Rattle.kv_model.specs.FlaggedMap.{FlaggedMap}
+use Rattle.kv_model.specs.Flags.{remove_flags}
+use Rattle.kv_model.specs.Write.{Write, map_of}
+use Rattle.record_core.specs.CutMoments.{CutStrictly}
+use Rattle.record_core.specs.Cuts.{active_of, version_of}
+use Rattle.record_core.specs.Log.{IsRecordAt, extent}
+use Rattle.record_core.specs.Mounts.{Contents, Holds, Mounts}
+use Rattle.area_log.specs.Areas.{end_of, first_place}
+use Rattle.ram_table.specs.declared.table.Entry.{Entry}
+use Rattle.area_collect.specs.Copies.{Copy, end_behind}
+use Rattle.area_collect.specs.Collection.{number_of}
+
+-- ---- records of a map
+
+-- The key of a record has its flags and value in this map.
+pub record IsOfMap (map : FlaggedMap) (r : Write) : Type 0 where
+  pub kept : r.flags ≢ remove_flags
+  pub found : get map r.key ≡ Some (record { flags = r.flags; bytes = r.value })
+
+-- each of these does
+abbrev pub AreOfMap : FlaggedMap → List Write → Type 0
+AreOfMap map [] = Unit {0}
+AreOfMap map (r ∷ rs) = IsOfMap map r × AreOfMap map rs
+
+-- one of these records has this key
+abbrev pub HasKey : List ℕ → List Write → Type 0
+HasKey key [] = ⊥
+HasKey key (r ∷ rs) = (r.key ≡ key) ⊎ HasKey key rs
+
+-- They are records by which the keys of the map have their values, and no key is missing.
+pub record StandForMap (map : FlaggedMap) (records : List Write) : Type 0 where
+  pub each : AreOfMap map records
+  pub all : (key : List ℕ) → (get map key ≡ None → ⊥) → HasKey key records
+
+-- ---- what may be collected
+
+-- these records stand at the entries' places, and end at or before this end
+abbrev pub StandAt : ℕ → List ℕ → ℕ → List Entry → List Write → Type 0
+StandAt prog image end [] [] = Unit {0}
+StandAt prog image end [] (r ∷ rs) = ⊥
+StandAt prog image end (e ∷ es) [] = ⊥
+StandAt prog image end (e ∷ es) (r ∷ rs) = IsRecordAt prog image e.offset r × (e.offset + extent prog r ≤ end) × StandAt prog image end es rs
+
+-- The records of a copy's entries stand in its one area and fit in the other, behind the place of a master record.
+pub record CanCopy (g : Geometry) (image : List ℕ) (copy : Copy) (records : List Write) : Type 0 where
+  pub stand : StandAt g.prog image (end_of copy.route.from) copy.entries records
+  pub fit : end_behind g.prog (first_place g copy.route.to) records ≤ end_of copy.route.to
+
+-- The area that is copied from is the active one of an image that mounts to this map, and the entries are those of the
+-- records by which its keys have their values; the version is the area's own, raised by one.
+pub record CanCollect (g : Geometry) (image : List ℕ) (copy : Copy) (version : ℕ) (map : FlaggedMap) : Type 0 where
+  pub contents : Contents
+  pub holds : Holds g image contents
+  pub active : active_of contents ≡ Some (number_of copy.route.from)
+  pub map_is : map ≡ map_of contents.records
+  pub own : ℕ
+  pub own_is : version_of (number_of copy.route.from) contents ≡ Some own
+  pub next : version ≡ (own + 1) % 2 ^ 16
+  pub records : List Write
+  pub can : CanCopy g image copy records
+  pub stand_for : StandForMap map records
+
+-- a moment of a collection that leaves the map as it was, as far as chance goes
+abbrev pub KeepsMap : FlashState → Copy → ℕ → List ℕ → Option DeviceCall → List ℕ → Type 0
+KeepsMap s copy version image call now = (map : FlaggedMap) → CanCollect s.geometry image copy version map
+    → CutStrictly s.geometry (λ left. Mounts s.geometry left map) call now

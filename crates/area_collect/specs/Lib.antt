@@ -1,0 +1,4 @@
+pub mod Copies
+pub mod Payload
+pub mod Collection
+pub mod Kept

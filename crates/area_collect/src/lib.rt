@@ -1,0 +1,14 @@
+//! Collection: copying the records that still count to the other area of a device, and then making
+//! that area the active one.
+//!
+//! Places and sizes are in bytes. No call takes memory.
+#![tactic(auto)]
+
+mod collection;
+mod copy;
+mod entries;
+mod laws;
+mod payload;
+
+pub use collection::{collect, copy_without};
+pub use laws::last_records_stand_for_the_map;
