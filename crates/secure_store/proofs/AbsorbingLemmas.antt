@@ -1,10 +1,8 @@
 -- Stored bytes that are absorbed one piece after another.
-use Rattle.std.proofs.Common.{◌≡◌, ℕ, ◌+◌, ◌-◌, ◌≤◌, List, [], ◌++◌, length, length-take, length-drop, take, drop, Option, Some, Ok, Err, refl, sym, ◌∙◌, ap, ap₂, subst, arith, append_assoc}
+use Rattle.std.proofs.Common.{◌≡◌, ℕ, ◌+◌, ◌-◌, ◌≤◌, List, [], ◌++◌, length, take, drop, refl, sym, ◌∙◌, ap, ap₂, subst, arith, append_assoc}
 use Rattle.std.proofs.lemmas.List.{append-nil, drop-drop, drop-take, drop_at, length-append, take-append-drop, take-take, take_at}
-use Rattle.std.specs.FinMap.{get}
 use Rattle.kv_model.specs.declared.error.KvError.{KvError}
 use Rattle.kv_model.specs.Constants.{Constants}
-use Rattle.kv_model.specs.FlaggedMap.{Stored}
 use Rattle.kv_model.specs.StoreState.{StoreState}
 use Rattle.kv_model.specs.Rules.{Rules}
 use Rattle.kv_model.specs.Kv.{KvState}
@@ -12,8 +10,8 @@ use Rattle.secure_record.specs.declared.metadata.Metadata.{Metadata}
 use Rattle.secure_record.specs.Sealed.{opened}
 use Rattle.secure_record.specs.States.{OpenState}
 use Rattle.secure_record.specs.Streams.{HasOpened}
-use Rattle.secure_store.specs.Reading.{HasRead, TellsPlain, WhereTold, part_at}
-use Rattle.secure_store.specs.Absorbing.{Source, WhereStored, source, FailsToRead, HasAbsorbed, HasAbsorbedAll, HasSkipped}
+use Rattle.secure_store.specs.Reading.{HasRead, TellsPlain, part_at}
+use Rattle.secure_store.specs.Absorbing.{Source, source, FailsToRead, HasAbsorbed, HasAbsorbedAll, HasSkipped}
 use Rattle.secure_record.specs.Metadata.{metadata_size}
 use Rattle.secure_store.proofs.PairLemmas.{read_then}
 

@@ -2,6 +2,7 @@ pub mod AbsorbingLemmas
 pub mod AnyCutLemmas
 pub mod CutLemmas
 pub mod FinishLemmas
+pub mod FreshLemmas
 pub mod HealLemmas
 pub mod IteratingLemmas
 pub mod LimitLemmas

@@ -1,17 +1,17 @@
 -- What a mount shows of the keys that a cut left.
-use Rattle.std.proofs.Common.{◌≡◌, ◌≢◌, ◌⊎◌, ℕ, Bool, true, false, List, Option, Some, None, refl, sym, ◌∙◌, ap, ap₂, inl, inr}
+use Rattle.std.proofs.Common.{◌≡◌, ◌⊎◌, ℕ, Bool, true, false, List, Option, Some, None, refl, ◌∙◌, ap, ap₂, inl, inr}
 use Rattle.std.specs.Prelude.{if◌then◌else◌, ◌&&◌}
 use Rattle.std.specs.Option.{option_map, option_map_or}
 use Rattle.std.specs.FinMap.{get}
-use Rattle.kv_model.specs.Constants.{Constants, Secure}
+use Rattle.kv_model.specs.Constants.{Constants}
 use Rattle.kv_model.specs.FlaggedMap.{Stored}
 use Rattle.kv_model.specs.Operations.{Operation}
 use Rattle.kv_model.specs.StoreState.{Maps, StoreState, maps_of}
 use Rattle.secure_record.specs.declared.metadata.Metadata.{Metadata}
-use Rattle.secure_store.specs.Heal.{fits_tag, heal, healed, healed_by, is_prior, metadata_in}
-use Rattle.secure_store.specs.Laws.{LeavesKey, LeavesOthers, ShowsOthers, completed, completed_view, mounted_view}
+use Rattle.secure_store.specs.Heal.{fits_tag, healed_by, is_prior, metadata_in}
+use Rattle.secure_store.specs.Laws.{LeavesKey, LeavesOthers, ShowsOthers, completed_view, mounted_view}
 use Rattle.secure_store.specs.Sealing.{secure_of, tag_entry}
-use Rattle.secure_store.specs.View.{View, view_by, view_of}
+use Rattle.secure_store.specs.View.{view_by, view_of}
 use Rattle.secure_store.proofs.HealLemmas.{get_healed}
 
 and_false : (a : Bool) → (a && false) ≡ false

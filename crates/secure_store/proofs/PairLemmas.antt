@@ -1,5 +1,5 @@
 -- What calls on two stores are to the two as one.
-use Rattle.std.proofs.Common.{◌≡◌, ◌⊎◌, ℕ, ◌+◌, ◌<◌, ◌≤◌, ◌^◌, Bool, true, false, List, ◌++◌, Option, Some, None, refl, sym, ◌∙◌, ap, ap₂, subst, inl, inr, arith}
+use Rattle.std.proofs.Common.{◌≡◌, ℕ, ◌+◌, ◌≤◌, Bool, true, false, List, ◌++◌, Option, Some, None, refl, sym, ◌∙◌, ap, ap₂, subst, inl, inr, arith}
 use Rattle.std.specs.Prelude.{◌&&◌, is_some, IsTrue}
 use mathlib.Core.Bool.{false≢true, true≢false}
 use Rattle.base_core.specs.Counts.{Rose}
@@ -9,10 +9,9 @@ use Rattle.kv_model.specs.declared.call.Reply.{Reply}
 use Rattle.kv_model.specs.declared.call.Reply.TheVariants.{Done, Value, Facts, Found, End, Refused}
 use Rattle.kv_model.specs.Constants.{Constants}
 use Rattle.kv_model.specs.StoreState.{StoreState}
-use Rattle.kv_model.specs.Operations.{Operation}
 use Rattle.kv_model.specs.Opening.{Opening}
 use Rattle.kv_model.specs.Rules.{Rules, step}
-use Rattle.kv_model.specs.Kv.{Answers, Answered, IsCause, Keeps, Kind, KvState, LeadsTo, TellsOnly, UnlessFailedWrite, answered, kind_of, may_end, Ruled, FailedRead, FailedWrite, Mismatched, Wanted}
+use Rattle.kv_model.specs.Kv.{Answers, Answered, IsCause, Keeps, Kind, KvState, LeadsTo, TellsOnly, UnlessFailedWrite, kind_of, may_end, Ruled, FailedRead, FailedWrite, Mismatched, Wanted}
 use Rattle.secure_store.specs.Pair.{Joining, both, pair, pair_constants}
 use Rattle.secure_store.specs.Reading.{HasRead, IsUnread}
 use Rattle.kv_model.proofs.PerformLemmas.{Keeps-trans, TellsOnly-trans}

@@ -1,16 +1,15 @@
 -- What a secure store answers to a read, by the view of the key.
-use Rattle.std.proofs.Common.{◌≡◌, ◌⊎◌, ℕ, Bool, true, false, nat_lt, List, length, take, drop, Option, Some, None, refl, sym, ◌∙◌, ap, subst, inl, inr}
-use Rattle.std.specs.Prelude.{if◌then◌else◌, IsTrue}
+use Rattle.std.proofs.Common.{◌≡◌, ◌⊎◌, ℕ, true, false, nat_lt, List, length, take, drop, Some, None, refl, sym, subst, inl, inr}
 use Rattle.kv_model.specs.declared.error.KvError.{KvError}
 use Rattle.kv_model.specs.declared.error.KvError.TheVariants as error
 use Rattle.kv_model.specs.declared.call.Reply.TheVariants.{Value, Facts, Refused}
 use Rattle.kv_model.specs.Constants.{Constants}
 use Rattle.kv_model.specs.Keys.{is_key}
 use Rattle.kv_model.specs.StoreState.{StoreState}
-use Rattle.kv_model.specs.Operations.{Operation, Info, Part}
-use Rattle.kv_model.specs.Rules.{Outcome, refused_or, refuses, step}
+use Rattle.kv_model.specs.Operations.{Info, Part}
+use Rattle.kv_model.specs.Rules.{refuses, step}
 use Rattle.kv_model.specs.Kv.{LeadsTo, answered, kind_of}
-use Rattle.secure_store.specs.SecureStep.{held, secure_rules, view}
+use Rattle.secure_store.specs.SecureStep.{secure_rules, view}
 use Rattle.secure_store.specs.View.{View, Absent, Held, AuthFailed, RollbackFailed}
 use Rattle.secure_store.specs.Viewing.{refusal_of}
 

@@ -1,6 +1,6 @@
 -- What a read of one of the two stores gives, and what it leaves.
-use Rattle.std.proofs.Common.{◌≡◌, ◌⊎◌, ℕ, ◌+◌, ◌≤◌, Bool, true, false, nat_lt, List, [], length, length-take, length-drop, take, drop, Option, Some, None, Ok, Err, refl, sym, ◌∙◌, ap, subst, inl, inr, arith}
-use Rattle.std.specs.Prelude.{if◌then◌else◌, is_some, min, IsTrue}
+use Rattle.std.proofs.Common.{◌≡◌, ◌⊎◌, ℕ, ◌+◌, ◌≤◌, Bool, true, false, nat_lt, List, [], length, length-take, length-drop, take, drop, Option, Some, None, refl, sym, ◌∙◌, ap, subst, inl, inr, arith}
+use Rattle.std.specs.Prelude.{if◌then◌else◌, is_some, IsTrue}
 use mathlib.Core.Bool.{false≢true, true≢false}
 use Rattle.std.specs.FinMap.{get}
 use Rattle.kv_model.specs.declared.error.KvError.{KvError}
@@ -14,7 +14,7 @@ use Rattle.kv_model.specs.Constants.{Constants}
 use Rattle.kv_model.specs.FlaggedMap.{Stored}
 use Rattle.kv_model.specs.Keys.{is_key}
 use Rattle.kv_model.specs.StoreState.{StoreState}
-use Rattle.kv_model.specs.Operations.{Operation, Info, Part}
+use Rattle.kv_model.specs.Operations.{Info, Part}
 use Rattle.kv_model.specs.PlainStep.{plain_rules}
 use Rattle.kv_model.specs.Rules.{AreRules, Outcome, Rules, refused_or, refuses, step}
 use Rattle.kv_model.specs.Kv.{Answers, Kind, KvState, LeadsTo, TellsOnly, UnlessFailedWrite, answered, kind_of, may_end, Ruled, FailedRead, FailedWrite, Mismatched, Wanted}

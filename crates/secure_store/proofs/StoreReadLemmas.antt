@@ -1,10 +1,9 @@
 -- What the reading calls of a secure store answer.
-use Rattle.std.proofs.Common.{◌≡◌, ◌⊎◌, ℕ, ◌+◌, ◌≤◌, Bool, true, false, nat_lt, List, [], length, take, drop, Option, Some, None, Result, Ok, Err, IfOk, refl, sym, ◌∙◌, ap, ap₂, subst, inl, inr, arith}
+use Rattle.std.proofs.Common.{◌≡◌, ℕ, ◌+◌, ◌≤◌, true, false, nat_lt, List, [], length, take, Option, Some, None, Result, Ok, Err, IfOk, refl, sym, ◌∙◌, ap, subst, inl, inr, arith}
 use Rattle.std.specs.Prelude.{is_some, IsTrue}
 use mathlib.Core.Bool.{true≢false}
 use Rattle.std.proofs.lemmas.Bool.Decides.{nat_tests}
 use Rattle.std.proofs.lemmas.List.{take_all}
-use Rattle.std.specs.FinMap.{get}
 use Rattle.kv_model.specs.declared.error.KvError.{KvError}
 use Rattle.kv_model.specs.declared.error.KvError.TheVariants as error
 use Rattle.kv_model.specs.declared.call.Got.{Got}
@@ -15,7 +14,7 @@ use Rattle.kv_model.specs.Flags.{is_mirrored}
 use Rattle.kv_model.specs.Given.{IsGot, got_or}
 use Rattle.kv_model.specs.Keys.{is_key}
 use Rattle.kv_model.specs.StoreState.{StoreState}
-use Rattle.kv_model.specs.Operations.{Operation, Info, Part}
+use Rattle.kv_model.specs.Operations.{Info, Part}
 use Rattle.kv_model.specs.Rules.{Outcome, Rules, step}
 use Rattle.kv_model.specs.Kv.{Answers, IsCause, Kind, KvState, LeadsTo, answered, kind_of, may_end, Ruled, FailedRead, FailedWrite, Mismatched, Wanted}
 use Rattle.kv_model.proofs.PerformLemmas.{info_reading, part_reading, step_stays}
@@ -23,16 +22,15 @@ use Rattle.secure_record.specs.declared.metadata.Metadata.{Metadata}
 use Rattle.secure_record.specs.declared.metadata.Revision.{Revision}
 use Rattle.secure_record.specs.declared.metadata.Revision.TheVariants.{First, Second}
 use Rattle.secure_record.specs.Metadata.{HasPrior}
-use Rattle.secure_record.specs.Sealed.{record_tag, stored, tag, tag1}
+use Rattle.secure_record.specs.Sealed.{record_tag, stored}
 use Rattle.secure_record.proofs.BodyLemmas.{length-stored}
 use Rattle.secure_store.specs.declared.opening.Found.{Found}
-use Rattle.secure_store.specs.Absorbing.{Gives, IsAuthentic}
 use Rattle.secure_store.specs.Pair.{pair, pair_constants}
 use Rattle.secure_store.specs.Reading.{HasRead, IsUnread, TellsPlain, WhereTold}
 use Rattle.secure_store.specs.SecureStep.{secure_rules}
 use Rattle.secure_store.specs.Store.{IsOwnValue, IsPlainStore, IsTagOf, OwnsWhole, WithinOr, joined}
 use Rattle.secure_store.specs.View.{view_of}
-use Rattle.secure_store.specs.Viewing.{IsHeld, IsNoForeign, IsTag, ViewsOr}
+use Rattle.secure_store.specs.Viewing.{IsHeld, IsNoForeign, ViewsOr}
 use Rattle.secure_store.proofs.PairLemmas.{read_answers, read_none, told_both}
 use Rattle.secure_store.proofs.ReadStepLemmas.{bad_info, bad_part, info_held, info_leads, part_beyond, part_held, part_leads}
 use Rattle.secure_store.proofs.RulesLemmas.{secure_are_rules}

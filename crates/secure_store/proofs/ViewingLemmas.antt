@@ -1,7 +1,7 @@
 -- What reading both stores shows of a key, as its view.
-use Rattle.std.proofs.Common.{◌≡◌, ◌⊎◌, ℕ, Bool, true, false, List, length, Option, Some, None, Result, Ok, Err, refl, sym, ◌∙◌, ap, ap₂, subst, inl, inr, arith}
+use Rattle.std.proofs.Common.{◌≡◌, ℕ, Bool, true, false, List, length, Option, Some, None, Result, Ok, Err, refl, sym, ◌∙◌, ap, ap₂, subst, inr, arith}
 use Rattle.std.specs.Prelude.{if◌then◌else◌, not, ◌&&◌, IfSome}
-use mathlib.Core.Bool.{false≢true, true≢false}
+use mathlib.Core.Bool.{false≢true}
 use Rattle.std.specs.Str.{bytes_eq}
 use Rattle.std.proofs.lemmas.Slice.Eq.{bytes_eq-Decides}
 use Rattle.kv_model.specs.declared.error.KvError.{KvError}
@@ -11,7 +11,6 @@ use Rattle.kv_model.specs.FlaggedMap.{Stored}
 use Rattle.secure_store.specs.Reading.{Begins}
 use Rattle.std.proofs.lemmas.List.{take_all}
 use Rattle.kv_model.specs.Flags.{is_mirrored}
-use Rattle.secure_record.specs.Unseal.{Opened, unseal}
 use Rattle.secure_store.specs.declared.opening.Found.{Found}
 use Rattle.secure_store.specs.declared.viewing.Mirror.{Mirror}
 use Rattle.secure_store.specs.declared.viewing.Mirror.TheVariants.{Absent, Other, Tag}

@@ -1,5 +1,5 @@
 -- That what a secure store knows of its two stores is a fact.
-use Rattle.std.specs.Coded.{Coded-set, coded×, coded_list, coded_ℕ, coded_option, code_by, codes}
+use Rattle.std.specs.Coded.{Coded-set, coded×, coded_list, coded_ℕ, coded_option, code_by}
 use Rattle.std.proofs.Common.{ℕ, List, Option, refl}
 use Rattle.std.proofs.Props.{props}
 use Rattle.std.specs.FinMap as map
@@ -17,5 +17,5 @@ iterators_set : IsSet Iterators
 iterators_set = Coded-set (map.code (coded× coded_ℕ coded_ℕ) (code_by (List ℕ × Option (List ℕ)) (coded× (coded_list coded_ℕ) (coded_option (coded_list coded_ℕ)))
     (λ (p : Position). (p.prefix, p.last)) (λ t. record { prefix = t.0; last = t.1 }) (λ _. refl)))
 
-pub plain_prop : (rules_by : Constants → Rules) (s : KvState) → IsProp (IsPlainStore rules_by s)
-plain_prop rules_by s = hlevel (map_set, iterators_set, props)
+pub plain_prop : {rules_by : Constants → Rules} {s : KvState} → IsProp (IsPlainStore rules_by s)
+plain_prop = hlevel (map_set, iterators_set, props)

@@ -1,7 +1,6 @@
 -- What reading one of the two stores gives, and what it leaves.
-use Rattle.std.specs.Prelude.{◌≡◌, ℕ, ◌+◌, ◌≤◌, true, min, IsTrue, List, [], length, take, drop, Option, Some, None, Result, Ok, Err, is_some}
+use Rattle.std.specs.Prelude.{◌≡◌, ℕ, true, min, IsTrue, List, [], length, take, drop, Option, Some, None, Result, Ok, Err}
 use Rattle.std.specs.Option.{ForSome}
-use Rattle.std.specs.FinMap.{get}
 use Rattle.kv_model.specs.declared.error.KvError.{KvError}
 use Rattle.kv_model.specs.declared.error.KvError.TheVariants.{ReadFault}
 use Rattle.kv_model.specs.declared.call.Got.{Got}
@@ -13,8 +12,6 @@ use Rattle.kv_model.specs.Operations.{Info}
 use Rattle.kv_model.specs.Rules.{Rules}
 use Rattle.kv_model.specs.PlainStep.{plain_rules}
 use Rattle.kv_model.specs.Kv.{IsCause, Keeps, KvState, TellsOnly, kind_of, may_end}
-use Rattle.secure_record.specs.States.{OpenState}
-use Rattle.secure_record.specs.Streams.{HasOpened}
 
 -- a store that tells this state, runs, and goes by the plain rules
 pub record TellsPlain (rules_by : Constants → Rules) (s : KvState) (state : StoreState) : Type 0 where

@@ -10,7 +10,8 @@ impl<U: Armable, R: Armable> SecureStore<U, R> {
     /// The `n`-th program or erase of the primary device from now is torn by the pattern.
     pub fn arm_primary(&mut self, alloc: Global, n: u32, pattern: Pattern) -> Result<(), NoMemory>
         requires { 1 ≤ n }
-        ensures primary { Arms (U.state self.old.primary) (U.state self.new.primary) pattern result }
+        ensures primary { Arms (U.state self.old.primary) (U.state self.new.primary)
+            pattern result }
         ensures rollback { self.new.rollback ≡ self.old.rollback }
         ensures root { self.new.root ≡ self.old.root }
         ensures iv { self.new.iv ≡ self.old.iv }
@@ -21,7 +22,8 @@ impl<U: Armable, R: Armable> SecureStore<U, R> {
     /// The `n`-th program or erase of the rollback device from now is torn by the pattern.
     pub fn arm_rollback(&mut self, alloc: Global, n: u32, pattern: Pattern) -> Result<(), NoMemory>
         requires { 1 ≤ n }
-        ensures rollback { Arms (R.state self.old.rollback) (R.state self.new.rollback) pattern result }
+        ensures rollback { Arms (R.state self.old.rollback) (R.state self.new.rollback)
+            pattern result }
         ensures primary { self.new.primary ≡ self.old.primary }
         ensures root { self.new.root ≡ self.old.root }
         ensures iv { self.new.iv ≡ self.old.iv }

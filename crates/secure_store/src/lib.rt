@@ -13,6 +13,8 @@ mod opening;
 mod reading;
 mod reads;
 mod store;
+#[cfg(test)]
+mod tests;
 mod viewing;
 
 pub use limits::{MAX_SECURE_VALUE, SEAL_SIZE, TAG_SIZE};

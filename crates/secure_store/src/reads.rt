@@ -49,9 +49,9 @@ impl<U: Kv, R: Kv> SecureStore<U, R> {
     /// A store over these two, with this root key, from which the keys of ciphers and tags are
     /// derived, and this next number. It takes no memory.
     ///
-    /// Neither store is stopped or has an active set or an iterator, and both go by the plain rules.
-    /// Two sets with one number and one root key share their key stream, so a number must not be
-    /// handed in again once a set has taken it.
+    /// Neither store is stopped or has an active set or an iterator, and both go by the plain
+    /// rules. Two sets with one number and one root key share their key stream, so a number must
+    /// not be handed in again once a set has taken it.
     pub fn new(primary: U, rollback: R, root: &[u8; 16], iv: u64) -> SecureStore<U, R>
         requires primary { IsFreshStore U.rules_by (U.state primary) }
         requires rollback { IsFreshStore R.rules_by (R.state rollback) }

@@ -13,6 +13,6 @@ pub struct SecureStore<U: Kv, R: Kv> {
     pub(crate) root: [u8; 16],
     /// The number of the next set that takes one.
     pub(crate) iv: u64,
-    ghost above: { IsPlainStore U.rules_by (U.state primary) } by { plain_prop U.rules_by (U.state primary) },
-    ghost below: { IsPlainStore R.rules_by (R.state rollback) } by { plain_prop R.rules_by (R.state rollback) },
+    ghost above: { IsPlainStore U.rules_by (U.state primary) } by { plain_prop },
+    ghost below: { IsPlainStore R.rules_by (R.state rollback) } by { plain_prop },
 }

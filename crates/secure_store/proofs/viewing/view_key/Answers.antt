@@ -1,4 +1,4 @@
-use Rattle.std.proofs.Common.{◌≡◌, List, ℕ, Option, Ok, Result, subst, sym, ◌∙◌}
+use Rattle.std.proofs.Common.{List, ℕ, Ok, Result, subst, sym, ◌∙◌}
 use Rattle.std.specs.FinMap.{get}
 use Rattle.kv_model.specs.declared.error.KvError.{KvError}
 use Rattle.secure_store.specs.declared.opening.Found.{Found}
