@@ -1,0 +1,5 @@
+pub mod CountLemmas
+pub mod HistoryLemmas
+pub mod KindLemmas
+pub mod ReadLemmas
+pub mod TurnLemmas
