@@ -13,3 +13,6 @@ mod log;
 
 pub use laws::a_log_stands_for_what_its_image_mounts_to;
 pub use log::MountedLog;
+
+#[cfg(test)]
+mod tests;
