@@ -42,8 +42,9 @@ use Rattle.ram_table.specs.declared.table.Entry.{Entry}
 use Rattle.area_collect.specs.declared.entries.Route.{Route}
 use Rattle.area_collect.specs.Copies.{AreIn, AreRead, Copied, Copy, HasCopiedMore, IsNotCopied, IsRoute, end_behind, moved, segment, spellings}
 use Rattle.area_collect.specs.Collection.{Collects, HasCopied, IsWhole, copy_of, number_of, with_copies, with_master}
-use Rattle.area_collect.proofs.EntryLemmas.{all_read_since, no_entry, not_copied_since}
+use Rattle.area_collect.proofs.EntryLemmas.{all_read_since, end_inside, end_length, end_whole, no_entry, not_copied_since}
 use Rattle.area_collect.proofs.PayloadLemmas.{erased_behind, some_is}
+use Rattle.area_collect.proofs.StandLemmas.{all_read_stand}
 
 -- ---- areas by their numbers
 
@@ -184,6 +185,14 @@ module _ {old : FlashState} (lawful : IsLawful old) (valid : IsValid old.geometr
       Within-trans area.base n image (blanked old.geometry (number_of area) image) call c (blanked_within image sized)
       (Within-trans area.base n (blanked old.geometry (number_of area) image) last.filled call c behind in_area)
 
+-- the copies' headers lie in the area
+module _ (s : FlashState) (positive : 1 ≤ s.geometry.prog) (route : Route) where
+  pub moved_in : (end : ℕ) (es : List Entry) (rs : List Write) → route.to.base ≤ end → end ≤ end_of route.to → AreRead s route end es rs → AreIn route.to (moved s.geometry.prog end es rs)
+  moved_in end [] rs from to read i inside = absurd (omega arith)
+  moved_in end (e ∷ es) [] from to read i inside = absurd read
+  moved_in end (e ∷ es) (r ∷ rs) from to read zero inside = record { from = from; to = omega (arith, read.0.within, extent-positive s.geometry.prog positive r, to) }
+  moved_in end (e ∷ es) (r ∷ rs) from to read (suc i) inside = moved_in (end + extent s.geometry.prog r) es rs (omega arith) (omega (arith, read.0.within, to)) read.1 i (omega (arith, inside))
+
 -- ---- what was copied behind the erase
 
 module _ {old mid : FlashState} (lawful : IsLawful old) (valid : IsValid old.geometry) (route : Route) (is_route : IsRoute old.geometry route) (entries : List Entry) (in_area : AreIn route.from entries) where
@@ -195,11 +204,26 @@ module _ {old mid : FlashState} (lawful : IsLawful old) (valid : IsValid old.geo
       (λ image told call c fills. fills_within lawful valid route.to is_route.to image (lawful.sized image told) call c fills) runs in
       let same : mid.geometry ≡ old.geometry = runs.kept.geometry in
       let read : AreRead old route place entries copied.records = all_read_since lawful route is_route route.to.base (area_size old.geometry) (omega arith) (omega (arith, is_route.to.size)) within valid place entries copied.records in_area copied.read in
+      let read_there : AreRead old route (first_place old.geometry route.to) entries copied.records = subst (λ (p : ℕ). AreRead old route p entries copied.records) place_is read in
+      let first = walk_begins old.geometry route.to valid is_route.to in
+      let end_is : done.end ≡ end_behind old.geometry.prog (first_place old.geometry route.to) copied.records =
+      copied.end_is ∙ ap (λ (g : Geometry). end_behind g.prog place copied.records) same ∙ ap (λ (p : ℕ). end_behind old.geometry.prog p copied.records) place_is in
+      let entries_are : done.entries ≡ moved old.geometry.prog (first_place old.geometry route.to) entries copied.records =
+      copied.entries_are ∙ ap (λ (g : Geometry). moved g.prog place entries copied.records) same ∙ ap (λ (p : ℕ). moved old.geometry.prog p entries copied.records) place_is in
       record {
         records = copied.records;
-        read = subst (λ (p : ℕ). AreRead old route p entries copied.records) place_is read;
-        end_is = copied.end_is ∙ ap (λ (g : Geometry). end_behind g.prog place copied.records) same ∙ ap (λ (p : ℕ). end_behind old.geometry.prog p copied.records) place_is;
-        entries_are = copied.entries_are ∙ ap (λ (g : Geometry). moved g.prog place entries copied.records) same ∙ ap (λ (p : ℕ). moved old.geometry.prog p entries copied.records) place_is;
+        read = read_there;
+        these = λ image told standing can. all_read_stand old (prog_positive old.geometry valid) image told route (first_place old.geometry route.to) (end_of route.from) entries copied.records standing read_there can.stand;
+        end_is = end_is;
+        end = record {
+          inside = record {
+            from = omega (arith, end_is, end_length old.geometry.prog (prog_positive old.geometry valid) (first_place old.geometry route.to) copied.records);
+            to = omega (arith, end_is, end_inside old route (first_place old.geometry route.to) entries copied.records read_there first.inside.to);
+          };
+          aligned = subst (IsMultipleOf old.geometry.prog) (sym end_is) (end_whole old.geometry.prog (first_place old.geometry route.to) copied.records first.aligned);
+        };
+        entries_are = entries_are;
+        places = subst (AreIn route.to) (sym entries_are) (moved_in old (prog_positive old.geometry valid) route (first_place old.geometry route.to) entries copied.records (omega arith) first.inside.to read_there);
         written = λ image told.
             copied.written (erased_from image route.to.base (area_size old.geometry)) (erased image told)
             ∙ ap (λ (g : Geometry). Some (put (erased_from image route.to.base (area_size old.geometry)) place (spellings g.prog copied.records))) same
@@ -220,8 +244,11 @@ pub collected_made : {old mid new : FlashState} (copy : Copy) (done : Copied) (v
 collected_made {old} copy done version same copied wrote = record {
   records = copied.records;
   read = copied.read;
+  these = copied.these;
   end_is = copied.end_is;
+  end = copied.end;
   entries_are = copied.entries_are;
+  places = copied.places;
   written = λ image told.
       wrote (with_copies old.geometry copy.route.to image copied.records) (copied.written image told)
       ∙ ap (λ (g : Geometry). Some (put (with_copies old.geometry copy.route.to image copied.records) copy.route.to.base (master_bytes g.prog version))) same;
@@ -271,19 +298,6 @@ module _ {old new : FlashState} {ending : Ending} (lawful : IsLawful old) (valid
 
   pub renew_within : (W : List ℕ → List ℕ → Type 0) → RunsBy old new (λ image call c. RenewsArea old.geometry (number_of area) (W image) image call c) ending → RunsBy old new (Within area.base (area_size old.geometry)) ending
   renew_within W runs = runs_weakened (Within area.base (area_size old.geometry)) (λ image told call c renews. renews_within lawful valid area is (W image) image (lawful.sized image told) call c renews) runs
-
--- the copies' headers lie in the area
-module _ (s : FlashState) (positive : 1 ≤ s.geometry.prog) (route : Route) where
-  pub moved_in : (end : ℕ) (es : List Entry) (rs : List Write) → route.to.base ≤ end → end ≤ end_of route.to → AreRead s route end es rs → AreIn route.to (moved s.geometry.prog end es rs)
-  moved_in end [] rs from to read i inside = absurd (omega arith)
-  moved_in end (e ∷ es) [] from to read i inside = absurd read
-  moved_in end (e ∷ es) (r ∷ rs) from to read zero inside = record { from = from; to = omega (arith, read.0.within, extent-positive s.geometry.prog positive r, to) }
-  moved_in end (e ∷ es) (r ∷ rs) from to read (suc i) inside = moved_in (end + extent s.geometry.prog r) es rs (omega arith) (omega (arith, read.0.within, to)) read.1 i (omega (arith, inside))
-
-pub places_in : {old new : FlashState} {finish : List ℕ → List ℕ} (valid : IsValid old.geometry) (copy : Copy) (done : Copied) → IsAreaOf old.geometry copy.route.to → HasCopied old new copy done finish → AreIn copy.route.to done.entries
-places_in {old} valid copy done is copied =
-    let first = walk_begins old.geometry copy.route.to valid is in
-    subst (AreIn copy.route.to) (sym copied.entries_are) (moved_in old (prog_positive old.geometry valid) copy.route (first_place old.geometry copy.route.to) copy.entries copied.records (omega arith) first.inside.to copied.read)
 
 -- copies of other entries, or behind others, are the same where these are
 pub same_copies : {mid new : FlashState} (route : Route) (place : ℕ) (es fs before : List Entry) (done : Copied) → es ≡ fs → before ≡ [] → HasCopiedMore mid new (record { route = route; entries = es }) (record { end = place; entries = before }) done

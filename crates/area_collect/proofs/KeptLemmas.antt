@@ -46,49 +46,17 @@ use Rattle.area_log.specs.Reading.{IsNotRead}
 use Rattle.ram_table.specs.declared.table.Entry.{Entry}
 use Rattle.area_collect.specs.declared.entries.Route.{Route}
 use Rattle.area_collect.specs.Copies.{AreRead, Copy, IsNotCopied, IsNotReadAt, IsReadAt, IsRoute, end_behind, room_for, spellings}
-use Rattle.area_collect.specs.Collection.{Collects, IsWhole, number_of, with_copies, with_master}
-use Rattle.area_collect.specs.Kept.{AreOfMap, CanCollect, CanCopy, KeepsMap, StandAt, StandForMap}
+use Rattle.area_collect.specs.Collection.{CanCopy, Collects, IsWhole, StandAt, number_of, with_copies, with_master}
+use Rattle.area_collect.specs.Kept.{CanCollect, Follows, KeepsMap, StandForMap}
 use Rattle.area_collect.specs.Payload.{IsFault}
 use Rattle.area_collect.proofs.CollectLemmas.{base_is, number_is}
 use Rattle.area_collect.proofs.EntryLemmas.{areas_apart, end_length}
 use Rattle.area_collect.proofs.MapLemmas.{stand_for_map}
+use Rattle.area_collect.proofs.StandLemmas.{all_read_stand, read_stands}
 
--- ---- what is read where records stand
+-- ---- what is not read where records stand
 
 module _ (s : FlashState) (positive : 1 ≤ s.geometry.prog) (image : List ℕ) (told : s.image ≡ Some image) where
-  -- it is the record that stands there
-  read_stands : (place room : ℕ) (r x : Write) → IsReadAt s place room r → IsRecordAt s.geometry.prog image place x → r ≡ x
-  read_stands place room r x read stands =
-      let prog : ℕ = s.geometry.prog in
-      let start : ℕ = place + up prog 24 in
-      let sizes : SameSizes (header_of r.flags r.key r.value) (header_of x.flags x.key x.value) =
-      same_sizes _ _ read.valid stands.valid_header (read.header.told image told ∙ header_at prog positive image place x stands) in
-      let at : start + length x.key ≡ place + (up prog 24 + length x.key) = omega arith in
-      let payload : r.key ++ r.value ≡ x.key ++ x.value =
-      read.payload.told image told
-      ∙ ap (λ (n : ℕ). part image start (n + length r.value)) sizes.key_size
-      ∙ ap (λ (n : ℕ). part image start (length x.key + n)) sizes.value_size
-      ∙ part-append image start (length x.key) (length x.value)
-      ∙ ap (λ (l : List ℕ). l ++ part image (start + length x.key) (length x.value)) (key_at prog positive image place x stands)
-      ∙ ap (λ (p : ℕ). x.key ++ part image p (length x.value)) at
-      ∙ ap (λ (l : List ℕ). x.key ++ l) (value_at prog positive image place x stands) in
-      let key : r.key ≡ x.key =
-      sym (take-append_seam r.key r.value) ∙ ap (λ (n : ℕ). take n (r.key ++ r.value)) sizes.key_size ∙ ap (take (length x.key)) payload ∙ take-append_seam x.key x.value in
-      let value : r.value ≡ x.value =
-      sym (drop-append_seam r.key r.value) ∙ ap (λ (n : ℕ). drop n (r.key ++ r.value)) sizes.key_size ∙ ap (drop (length x.key)) payload ∙ drop-append_seam x.key x.value in
-      λ i. record { flags = sizes.flags i; key = key i; value = value i }
-
-  pub all_read_stand : (route : Route) (end limit : ℕ) (es : List Entry) (rs xs : List Write) → AreRead s route end es rs → StandAt s.geometry.prog image limit es xs → rs ≡ xs
-  all_read_stand route end limit [] [] [] read stand = refl
-  all_read_stand route end limit [] [] (x ∷ xs) read stand = absurd stand
-  all_read_stand route end limit [] (r ∷ rs) xs read stand = absurd read
-  all_read_stand route end limit (e ∷ es) [] xs read stand = absurd read
-  all_read_stand route end limit (e ∷ es) (r ∷ rs) [] read stand = absurd stand
-  all_read_stand route end limit (e ∷ es) (r ∷ rs) (x ∷ xs) read stand =
-      let first : r ≡ x = read_stands e.offset (room_for route e.offset end) r x read.0 stand.0 in
-      let rest : rs ≡ xs = all_read_stand route (end + extent s.geometry.prog r) limit es rs xs read.1 stand.2 in
-      λ i. first i ∷ rest i
-
   corrupt_is_no_fault : (e : KvError) (x : Write) (new : FlashState) → (stored computed : ℕ) → e ≡ error.Corrupt stored computed → IsReadFault s new e ⊎ ((e ≡ error.InvalidSize) × (length x.value < 0)) → ⊥
   corrupt_is_no_fault e x new stored computed is (inl fault) = let same = sym is ∙ fault.is in cc
   corrupt_is_no_fault e x new stored computed is (inr invalid) = omega (arith, invalid.1)
@@ -115,7 +83,7 @@ module _ (s : FlashState) (positive : 1 ≤ s.geometry.prog) (image : List ℕ) 
   none_missed route end (b ∷ before) this after [] xs e read stand fit not_read = absurd read
   none_missed route end (b ∷ before) this after (r ∷ rs) [] e read stand fit not_read = absurd stand
   none_missed route end (b ∷ before) this after (r ∷ rs) (x ∷ xs) e read stand fit not_read =
-      let first : r ≡ x = read_stands b.offset (room_for route b.offset end) r x read.0 stand.0 in
+      let first : r ≡ x = read_stands s positive image told b.offset (room_for route b.offset end) r x read.0 stand.0 in
       none_missed route (end + extent s.geometry.prog r) before this after rs xs e read.1 stand.2
       (subst (λ (y : Write). end_behind s.geometry.prog (end + extent s.geometry.prog y) xs ≤ end_of route.to) (sym first) fit) not_read
 
@@ -151,8 +119,7 @@ module _ (prog : ℕ) (positive : 1 ≤ prog) where
       let here : IsRecordAt prog now place r = IsRecordAt-put prog positive image place r stand.0.valid_key stand.0.valid_header (omega (arith, both, fits)) in
       let behind : AreRecords prog (put now (place + extent prog r) rest) (place + extent prog r) (end_behind prog (place + extent prog r) rs) rs =
       spelled_stand old limit es rs stand.2 now (place + extent prog r) (omega (arith, both, fits, now_long)) in
-      subst (λ (l : List ℕ). IsRecordAt prog l place r × AreRecords prog l (place + extent prog r) (end_behind prog (place + extent prog r) rs) rs) joined
-      (
+      subst (λ (l : List ℕ). IsRecordAt prog l place r × AreRecords prog l (place + extent prog r) (end_behind prog (place + extent prog r) rs) rs) joined (
         IsRecordAt-Torn prog positive (place + extent prog r) (length rest) now (put now (place + extent prog r) rest) place r
             (Torn-put now (place + extent prog r) rest (omega (arith, both, fits, now_long))) (inl (omega arith)) here,
         behind,
@@ -249,14 +216,15 @@ module _ (g : Geometry) (valid : IsValid g) (image : List ℕ) (sized : length i
       let limit : route.to.base + area_size g ≡ end_of route.to = omega (arith, size_is) in
       let all : ActiveRecords g (with_master g route.to version (with_copies g route.to image rs)) (Some k) end rs =
       subst (λ (p : ℕ). AreAllRecords g.prog (with_master g route.to version (with_copies g route.to image rs)) (p + master_size g.prog) (p + area_size g) end rs) (sym at)
-      (subst (λ (n : ℕ). AreAllRecords g.prog (with_master g route.to version (with_copies g route.to image rs)) (first_place g route.to) n end rs) (sym limit) all_copied_records) in
-      (record { first = first; second = second; records = rs; end = end },
-      record {
-        first_master = is_first;
-        second_master = is_second;
-        active = subst (λ (a : Option ℕ). ActiveRecords g (with_master g route.to version (with_copies g route.to image rs)) a end rs) (sym active) all;
-      },
-      refl)
+      (subst (λ (n : ℕ). AreAllRecords g.prog (with_master g route.to version (with_copies g route.to image rs)) (first_place g route.to) n end rs) (sym limit) all_copied_records) in (
+        record { first = first; second = second; records = rs; end = end },
+        record {
+          first_master = is_first;
+          second_master = is_second;
+          active = subst (λ (a : Option ℕ). ActiveRecords g (with_master g route.to version (with_copies g route.to image rs)) a end rs) (sym active) all;
+        },
+        refl,
+      )
 
   module _ (own : ℕ) (own_fits : own < 2 ^ 16) (next : version ≡ (own + 1) % 2 ^ 16) where
     to_second : active_area (Some own) (Some version) ≡ Some 1
@@ -302,18 +270,18 @@ renew_implies g k V W image call now implies (inr last) = inr (record {
 
 module _ (s : FlashState) (valid : IsValid s.geometry) (image : List ℕ) (told : s.image ≡ Some image) (sized : length image ≡ size_of s.geometry) (route : Route) (is_route : IsRoute s.geometry route) (entries : List Entry) (version : ℕ) (map : FlaggedMap) (can : CanCollect s.geometry image (record { route = route; entries = entries }) version map) where
   version_fits : version < 2 ^ 16
-  version_fits = omega (arith, can.next)
+  version_fits = omega (arith, can.follows.next)
 
   from_base : base_of s.geometry (number_of route.from) ≡ route.from.base
   from_base = base_is s.geometry valid route.from is_route.from
 
   -- the version of the area that is copied from
-  had_as : (k : ℕ) → (k ≡ 0) ⊎ (k ≡ 1) → version_of k can.contents ≡ Some can.own → base_of s.geometry k ≡ route.from.base → MasterAt s.geometry.prog image route.from.base (Some can.own)
+  had_as : (k : ℕ) → (k ≡ 0) ⊎ (k ≡ 1) → version_of k can.contents ≡ Some can.follows.own → base_of s.geometry k ≡ route.from.base → MasterAt s.geometry.prog image route.from.base (Some can.follows.own)
   had_as k number own_is at = subst (λ (v : Option ℕ). MasterAt s.geometry.prog image route.from.base v) own_is
       (subst (λ (p : ℕ). MasterAt s.geometry.prog image p (version_of k can.contents)) at (master_at s.geometry image can.contents k number can.holds))
 
-  had : MasterAt s.geometry.prog image route.from.base (Some can.own)
-  had = had_as (number_of route.from) (number_is s.geometry valid route.from is_route.from) can.own_is from_base
+  had : MasterAt s.geometry.prog image route.from.base (Some can.follows.own)
+  had = had_as (number_of route.from) (number_is s.geometry valid route.from is_route.from) can.follows.own_is from_base
 
   whole_is_map : (left : List ℕ) → IsWhole s (record { route = route; entries = entries }) version image left → Mounts s.geometry left map
   whole_is_map left whole =
@@ -322,7 +290,7 @@ module _ (s : FlashState) (valid : IsValid s.geometry) (image : List ℕ) (told 
       whole.is ∙ ap (λ (rs : List Write). with_master s.geometry route.to version (with_copies s.geometry route.to image rs)) same in
       subst (λ (l : List ℕ). Mounts s.geometry l map) (sym is)
       (subst (λ (m : FlaggedMap). Mounts s.geometry (with_master s.geometry route.to version (with_copies s.geometry route.to image can.records)) m) (stand_for_map map can.records can.stand_for)
-      (whole_mounts s.geometry valid image sized route is_route version version_fits entries can.records can.can can.own had.in_range can.next had))
+      (whole_mounts s.geometry valid image sized route is_route version version_fits entries can.records can.can can.follows.own had.in_range can.follows.next had))
 
   spare : IsSpare s.geometry image can.contents (number_of route.to)
   spare = record {
@@ -338,6 +306,17 @@ module _ (s : FlashState) (valid : IsValid s.geometry) (image : List ℕ) (told 
       (λ left is. ⊎_elim (λ was. subst (Mounts s.geometry left) (sym can.map_is) was) (λ new. new) is) call now
       (renew_map s.geometry valid image sized can.contents (number_of route.to) map spare call now
       (renew_implies s.geometry (number_of route.to) (IsWhole s (record { route = route; entries = entries }) version image) (λ left. Mounts s.geometry left map) image call now whole_is_map renews))
+
+-- copies that a master record of the next version is written before are what the image mounts to
+pub finished_mounts : (g : Geometry) (image : List ℕ) (copy : Copy) (version : ℕ) (records : List Write) (contents : Contents) → IsValid g → length image ≡ size_of g → IsRoute g copy.route → CanCopy g image copy records → Holds g image contents → Follows contents (number_of copy.route.from) version
+    → Mounts g (with_master g copy.route.to version (with_copies g copy.route.to image records)) (map_of records)
+finished_mounts g image copy version records contents valid sized is_route can holds follows =
+    let k : ℕ = number_of copy.route.from in
+    let number = number_is g valid copy.route.from is_route.from in
+    let had : MasterAt g.prog image copy.route.from.base (Some follows.own) =
+    subst (λ (p : ℕ). MasterAt g.prog image p (Some follows.own)) (base_is g valid copy.route.from is_route.from)
+    (subst (λ (v : Option ℕ). MasterAt g.prog image (base_of g k) v) follows.own_is (master_at g image contents k number holds)) in
+    whole_mounts g valid image sized copy.route is_route version (omega (arith, follows.next)) copy.entries records can follows.own had.in_range follows.next had
 
 pub keeps_runs : {old new : FlashState} {ending : Ending} (lawful : IsLawful old) (valid : IsValid old.geometry) (route : Route) (is_route : IsRoute old.geometry route) (entries : List Entry) (version : ℕ) → RunsBy old new (Collects old (record { route = route; entries = entries }) version) ending
     → RunsBy old new (KeepsMap old (record { route = route; entries = entries }) version) ending

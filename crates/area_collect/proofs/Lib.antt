@@ -4,3 +4,4 @@ pub mod EntryLemmas
 pub mod KeptLemmas
 pub mod MapLemmas
 pub mod PayloadLemmas
+pub mod StandLemmas

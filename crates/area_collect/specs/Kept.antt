@@ -1,5 +1,5 @@
 -- What a collection keeps.
-use Rattle.std.specs.Prelude.{◌≡◌, ◌≢◌, ◌⊎◌, ℕ, ◌+◌, ◌%◌, ◌^◌, ◌≤◌, List, [], ◌∷◌, Option, Some, None}
+use Rattle.std.specs.Prelude.{◌≡◌, ◌≢◌, ◌⊎◌, ℕ, ◌+◌, ◌%◌, ◌^◌, List, [], ◌∷◌, Option, Some, None}
 use Rattle.std.specs.FinMap.{get}
 use Rattle.flash_core.specs.declared.geometry.Geometry.{Geometry}
 use Rattle.flash_core.specs.State.{DeviceCall, FlashState}
@@ -8,12 +8,9 @@ use Rattle.kv_model.specs.Flags.{remove_flags}
 use Rattle.kv_model.specs.Write.{Write, map_of}
 use Rattle.record_core.specs.CutMoments.{CutStrictly}
 use Rattle.record_core.specs.Cuts.{active_of, version_of}
-use Rattle.record_core.specs.Log.{IsRecordAt, extent}
 use Rattle.record_core.specs.Mounts.{Contents, Holds, Mounts}
-use Rattle.area_log.specs.Areas.{end_of, first_place}
-use Rattle.ram_table.specs.declared.table.Entry.{Entry}
-use Rattle.area_collect.specs.Copies.{Copy, end_behind}
-use Rattle.area_collect.specs.Collection.{number_of}
+use Rattle.area_collect.specs.Copies.{Copy}
+use Rattle.area_collect.specs.Collection.{CanCopy, number_of}
 
 -- ---- records of a map
 
@@ -39,28 +36,20 @@ pub record StandForMap (map : FlaggedMap) (records : List Write) : Type 0 where
 
 -- ---- what may be collected
 
--- these records stand at the entries' places, and end at or before this end
-abbrev pub StandAt : ℕ → List ℕ → ℕ → List Entry → List Write → Type 0
-StandAt prog image end [] [] = Unit {0}
-StandAt prog image end [] (r ∷ rs) = ⊥
-StandAt prog image end (e ∷ es) [] = ⊥
-StandAt prog image end (e ∷ es) (r ∷ rs) = IsRecordAt prog image e.offset r × (e.offset + extent prog r ≤ end) × StandAt prog image end es rs
-
--- The records of a copy's entries stand in its one area and fit in the other, behind the place of a master record.
-pub record CanCopy (g : Geometry) (image : List ℕ) (copy : Copy) (records : List Write) : Type 0 where
-  pub stand : StandAt g.prog image (end_of copy.route.from) copy.entries records
-  pub fit : end_behind g.prog (first_place g copy.route.to) records ≤ end_of copy.route.to
+-- This version is the next one behind the area's own.
+pub record Follows (contents : Contents) (k version : ℕ) : Type 0 where
+  pub own : ℕ
+  pub own_is : version_of k contents ≡ Some own
+  pub next : version ≡ (own + 1) % 2 ^ 16
 
 -- The area that is copied from is the active one of an image that mounts to this map, and the entries are those of the
--- records by which its keys have their values; the version is the area's own, raised by one.
+-- records by which its keys have their values; the version is the next one.
 pub record CanCollect (g : Geometry) (image : List ℕ) (copy : Copy) (version : ℕ) (map : FlaggedMap) : Type 0 where
   pub contents : Contents
   pub holds : Holds g image contents
   pub active : active_of contents ≡ Some (number_of copy.route.from)
   pub map_is : map ≡ map_of contents.records
-  pub own : ℕ
-  pub own_is : version_of (number_of copy.route.from) contents ≡ Some own
-  pub next : version ≡ (own + 1) % 2 ^ 16
+  pub follows : Follows contents (number_of copy.route.from) version
   pub records : List Write
   pub can : CanCopy g image copy records
   pub stand_for : StandForMap map records

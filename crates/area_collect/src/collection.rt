@@ -2,7 +2,7 @@
 ghost use Rattle.std.specs.Prelude.{◌≡◌, ◌≢◌, ◌⊎◌, ◌+◌, ◌<◌, ◌≤◌, [], List, length, IfOk, IfErr, Some};
 ghost use Rattle.std.specs.Option.{ForSome};
 ghost use Rattle.kv_model.specs.Write.{Write};
-ghost use Rattle.area_collect.specs.Kept.{CanCopy, KeepsMap};
+ghost use Rattle.area_collect.specs.Kept.{KeepsMap};
 ghost use Rattle.std.specs.List.{remove};
 ghost use Rattle.flash_core.specs.Erases.{erased_from};
 ghost use Rattle.flash_core.specs.Moments.{Within};
@@ -12,10 +12,10 @@ ghost use Rattle.flash_core.specs.State.{OnImage};
 ghost use Rattle.kv_model.specs.declared.error.KvError.TheVariants.{WriteFault};
 ghost use Rattle.record_core.specs.Endings.{kv_ended};
 ghost use Rattle.record_core.specs.Renewal.{FillsArea};
-ghost use Rattle.area_log.specs.Areas.{CanWork, first_place, IsAreaOf, IsEnd};
+ghost use Rattle.area_log.specs.Areas.{CanWork, first_place, IsAreaOf};
 ghost use Rattle.ram_table.specs.Table.{KeepsRoom};
 ghost use Rattle.area_collect.specs.Copies.{AreIn, IsNotCopied, IsRoute};
-ghost use Rattle.area_collect.specs.Collection.{Collects, HasCopied, copy_of, number_of, with_master};
+ghost use Rattle.area_collect.specs.Collection.{CanCopy, Collects, HasCopied, copy_of, number_of, with_master};
 ghost use Rattle.area_collect.specs.Payload.{IsFault};
 
 use crate::entries::{Route, copy_entries};
@@ -110,8 +110,6 @@ pub fn collect<F: Flash>(
         (copy_of from.now to.now table.now.entries)
         (record { end = end; entries = spare.new.entries })
         (with_master (F.state flash.old).geometry to.now version)) }
-    ensures end { IfOk result (IsEnd (F.state flash.old).geometry to.now) }
-    ensures places { IfOk result (λ _. AreIn to.now spare.new.entries) }
     ensures room { KeepsRoom spare.old spare.new }
 {
     let route = Route {
@@ -157,8 +155,6 @@ pub fn copy_without<F: Flash>(
     ensures copied { IfOk result (λ end. HasCopied (F.state flash.old) (F.state flash.new)
         (copy_of from.now to.now (remove table.now.entries left_out))
         (record { end = end; entries = spare.new.entries }) (λ image. image)) }
-    ensures end { IfOk result (IsEnd (F.state flash.old).geometry to.now) }
-    ensures places { IfOk result (λ _. AreIn to.now spare.new.entries) }
     ensures room { KeepsRoom spare.old spare.new }
 {
     let route = Route {

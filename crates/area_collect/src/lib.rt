@@ -11,4 +11,4 @@ mod laws;
 mod payload;
 
 pub use collection::{collect, copy_without};
-pub use laws::last_records_stand_for_the_map;
+pub use laws::{finished_copies_are_mounted, last_records_stand_for_the_map};

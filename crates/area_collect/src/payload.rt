@@ -54,8 +54,12 @@ fn copy_piece<F: Flash>(
         (Within target (length units.old)) (kv_ended result) }
     ensures fault { IfErr result IsFault }
     ensures copied { IfOk result (HasCopiedBytes (F.state flash.old) (F.state flash.new)
-        (record { source = source; target = target; size = read;
-        padding = length units.old - read }) start) }
+        (record {
+          source = source;
+          target = target;
+          size = read;
+          padding = length units.old - read;
+        }) start) }
 {
     let (bytes, padding) = units.split_at_mut(read as usize);
     padding.fill(ERASED);
@@ -84,8 +88,12 @@ pub(crate) fn copy_payload<F: Flash>(
         (Within target (up (F.state flash.old).geometry.prog size)) (kv_ended result) }
     ensures fault { IfErr result IsFault }
     ensures copied { IfOk result (HasCopiedBytes (F.state flash.old) (F.state flash.new)
-        (record { source = source; target = target; size = size;
-        padding = up (F.state flash.old).geometry.prog size - size }) start) }
+        (record {
+          source = source;
+          target = target;
+          size = size;
+          padding = up (F.state flash.old).geometry.prog size - size;
+        }) start) }
 {
     let geometry = flash.geometry();
     let padded = padded_size(geometry.prog, size);

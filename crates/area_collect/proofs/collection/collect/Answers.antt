@@ -6,7 +6,7 @@ use Rattle.ram_table.specs.declared.table.Entry.{Entry}
 use Rattle.area_collect.specs.declared.entries.Route.{Route}
 use Rattle.area_collect.specs.Copies.{Copied, HasCopiedMore, IsNotCopied, IsRoute, segment}
 use Rattle.area_collect.specs.Collection.{HasCopied, IsWhole, copy_of, number_of}
-use Rattle.area_collect.proofs.CollectLemmas.{Filling, collected_made, copies_made, erased_filling, fill_renews, fill_runs, fill_within, filling_more, master_erased, master_renews, not_copied_before, places_in, renew_within, same_copies, start_end, start_erased, start_inside, whole_made}
+use Rattle.area_collect.proofs.CollectLemmas.{Filling, collected_made, copies_made, erased_filling, fill_renews, fill_runs, fill_within, filling_more, master_erased, master_renews, not_copied_before, renew_within, same_copies, start_end, start_erased, start_inside, whole_made}
 use Rattle.area_collect.proofs.EntryLemmas.{copied_more_records, handed_cause, not_copied_ahead, not_copied_more, segment_all, segment_without}
 use Rattle.area_collect.proofs.KeptLemmas.{keeps_runs, only_faults}
 use Rattle.area_collect.proofs.collection.collect.Goals as goal
@@ -265,20 +265,6 @@ returns-clause-copied g c =
     (same_copies route place (segment entries 0 c.len.result) entries c.empty.new.table.entries done all c.empty.ensures.entries second.copied) in
     collected_made (copy_of from to entries) done c.args.version more.runs.kept.geometry copied c.in_ok-write_master.ensures.written
 
-pub returns-clause-places : goal.returns-clause-places
-returns-clause-places g c =
-    let old = g.F.Flash.state c.args.flash.now in
-    let from : Area = c.args.from.now in
-    let to : Area = c.args.to.now in
-    let entries : List Entry = c.args.table.now.entries in
-    let lawful = g.met.F.Flash.lawful c.args.flash.now in
-    let valid = c.requires.can.valid in
-    let area = c.requires.can.is_area in
-    let route : Route = record { from = from; to = to } in
-    let is_route : IsRoute old.geometry route = record { from = c.requires.from; to = area; apart = c.requires.apart } in
-    places_in valid (copy_of from to entries) _ area (returns-clause-copied g c)
-
-
 pub returns-in_err-end-clause-told : goal.returns-in_err-end-clause-told
 returns-in_err-end-clause-told g c image told records can =
     let old = g.F.Flash.state c.args.flash.now in
@@ -343,4 +329,3 @@ returns-clause-keeps g c =
     let route : Route = record { from = from; to = to } in
     let is_route : IsRoute old.geometry route = record { from = c.requires.from; to = area; apart = c.requires.apart } in
     keeps_runs lawful valid route is_route entries c.args.version (returns-clause-runs g c)
-

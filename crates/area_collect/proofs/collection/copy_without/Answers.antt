@@ -9,7 +9,7 @@ use Rattle.ram_table.specs.declared.table.Entry.{Entry}
 use Rattle.area_collect.specs.declared.entries.Route.{Route}
 use Rattle.area_collect.specs.Copies.{AreIn, Copied, HasCopiedMore, IsNotCopied, IsRoute, segment}
 use Rattle.area_collect.specs.Collection.{copy_of, number_of}
-use Rattle.area_collect.proofs.CollectLemmas.{Filling, if_err_map, if_ok_map, remove_in, segment_in, copies_made, erased_filling, fill_runs, fill_within, filling_more, not_copied_before, places_in, same_copies, start_end, start_erased, start_inside}
+use Rattle.area_collect.proofs.CollectLemmas.{Filling, if_err_map, if_ok_map, remove_in, segment_in, copies_made, erased_filling, fill_runs, fill_within, filling_more, not_copied_before, same_copies, start_end, start_erased, start_inside}
 use Rattle.area_collect.proofs.EntryLemmas.{copied_more_records, end_at, handed_cause, not_copied_ahead, not_copied_more, segment_without}
 use Rattle.area_collect.proofs.KeptLemmas.{only_faults}
 use Rattle.area_collect.proofs.collection.copy_without.Goals as goal
@@ -244,20 +244,6 @@ returns-clause-copied g c =
     (copied_more_records lawful_mid route is_route_mid place n (omega (arith, place_is)) (omega (arith, inside)) second.runs valid_mid es fs before now last fs_in refl inside second.copied third)))
     c.copy_entries-2.ensures.copied
 
-pub returns-clause-places : goal.returns-clause-places
-returns-clause-places g c =
-    let old = g.F.Flash.state c.args.flash.now in
-    let from : Area = c.args.from.now in
-    let to : Area = c.args.to.now in
-    let entries : List Entry = c.args.table.now.entries in
-    let lawful = g.met.F.Flash.lawful c.args.flash.now in
-    let valid = c.requires.can.valid in
-    let area = c.requires.can.is_area in
-    let route : Route = record { from = from; to = to } in
-    let is_route : IsRoute old.geometry route = record { from = c.requires.from; to = area; apart = c.requires.apart } in
-    if_ok_map c.copy_entries-2.result (λ end copied. places_in valid (copy_of from to (remove entries c.args.left_out)) (record { end = end; entries = c.copy_entries-2.new.spare.entries }) area copied) (returns-clause-copied g c)
-
-
 pub returns-in_err-end-clause-told : goal.returns-in_err-end-clause-told
 returns-in_err-end-clause-told g c image told records can =
     let old = g.F.Flash.state c.args.flash.now in
@@ -283,4 +269,3 @@ returns-clause-told g c image told records can =
     let route : Route = record { from = from; to = to } in
     let is_route : IsRoute old.geometry route = record { from = c.requires.from; to = area; apart = c.requires.apart } in
     only_faults old valid image told (copy_of from to (remove entries c.args.left_out)) records can c.copy_entries-2.result (returns-clause-cause g c)
-

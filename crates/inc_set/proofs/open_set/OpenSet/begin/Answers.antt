@@ -28,7 +28,7 @@ set_is key copy flags size at crc same sum = λ i. record { key = same i; flags 
 
 pub returns-clause-set : goal.returns-clause-set
 returns-clause-set c =
-    set_is c.args.key.now c.copy_of.result c.args.flags c.args.size c.args.at c.crc.result c.copy_of.ensures
+    set_is c.args.key.now c.copied.result c.args.flags c.args.size c.args.at c.crc.result c.copied.ensures
     (crc_is c.crc_of_front.result c.crc.result c.args.flags c.args.size c.args.key.now c.as_slice-bytes.result.now c.as_slice-bytes.ensures.bytes c.crc_of_front.ensures c.crc.ensures)
 
 pub returns-clause-holds : goal.returns-clause-holds
