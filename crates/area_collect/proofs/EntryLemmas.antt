@@ -2,6 +2,7 @@
 use Rattle.std.proofs.Common.{◌≡◌, ◌⊎◌, ℕ, zero, suc, ◌+◌, ◌-◌, ◌<◌, ◌≤◌, min, List, [], ◌∷◌, ◌++◌, length, take, drop, refl, sym, ◌∙◌, ap, subst, arith, inl, inr, ⊎_elim, append_assoc, append-nil, length-append, add-one}
 use Rattle.std.specs.List.{remove}
 use Rattle.std.proofs.lemmas.List.{drop-drop, get_or-drop, get_or_append_left, length-drop, take_more, take_rest}
+use Rattle.std.proofs.lemmas.Bool.{cases_lt}
 use Rattle.std.proofs.Math.Seq.{get_or-append_seam, take-add, take-length}
 use Rattle.std.specs.Prelude.{Option, Some, None, Result, Ok, Err, IfErr, IsErrAnd}
 use Rattle.std.specs.Option.{ForSome}
@@ -328,3 +329,12 @@ one_in area e range (suc i) inside = absurd (omega arith)
 
 pub same_end : (g h : Geometry) (area : Area) (place : ℕ) → h ≡ g → IsEnd h area place → IsEnd g area place
 same_end g h area place is end = subst (λ (x : Geometry). IsEnd x area place) is end
+
+-- one entry more at the end of a table
+pub push_in : (area : Area) (xs : List Entry) (e : Entry) → AreIn area xs → IsRange area e.offset 24 → AreIn area (xs ++ e ∷ [])
+push_in area xs e in_area range i inside = elim (cases_lt i (length xs)) [
+  | inl below ↦ subst (λ (x : Entry). IsRange area x.offset 24) (sym (get_or_append_left xs (e ∷ []) no_entry i below)) (in_area i below)
+  | inr end ↦
+      let at : i ≡ length xs = omega (arith, end, inside, length-append xs (e ∷ [])) in
+      subst (λ (x : Entry). IsRange area x.offset 24) (sym (ap (entry_at (xs ++ e ∷ [])) at ∙ get_or-append_seam xs e [] no_entry)) range
+]
