@@ -10,6 +10,7 @@ pub mod OpeningLemmas
 pub mod OtherKeyLemmas
 pub mod OtherViewLemmas
 pub mod PairLemmas
+pub mod ProtectedLemmas
 pub mod ReadingLemmas
 pub mod ReadStepLemmas
 pub mod RemoveLemmas

@@ -5,6 +5,7 @@ use Rattle.std.specs.FinMap.{get}
 use Rattle.kv_model.specs.Constants.{Constants, Secure}
 use Rattle.kv_model.specs.FlaggedMap.{Stored}
 use Rattle.kv_model.specs.Flags.{is_secure_flags}
+use Rattle.kv_model.specs.Keys.{is_key}
 use Rattle.kv_model.specs.Operations.{Operation}
 use Rattle.kv_model.specs.Rules.{cuts}
 use Rattle.kv_model.specs.StoreState.{Maps, StoreState, maps_of}
@@ -73,3 +74,11 @@ abbrev pub ShowsOthers : Constants → StoreState → ℕ → Operation → List
 ShowsOthers constants state who operation key = (maps : Maps) → Contains (cuts (secure_rules constants) state who operation) maps
     → (other : List ℕ) → other ≢ key
     → (mounted_view constants maps other ≡ view constants state other) ⊎ (mounted_view constants maps other ≡ completed_view constants (maps_of state) other)
+
+-- a set that nothing refuses before the stores are asked
+pub record MaySetNow (state : StoreState) (key value : List ℕ) (flags : ℕ) : Type 0 where
+  pub running : state.doubt ≡ None
+  pub valid : is_key key ≡ true
+  pub secure : is_secure_flags flags ≡ true
+  pub most : length value ≤ MAX_SECURE_VALUE
+  pub no_set : state.open_set ≡ None

@@ -1,9 +1,10 @@
 //! What the rules of a secure store mean.
-ghost use Rattle.std.specs.Prelude.{◌≡◌, ◌<◌, ◌^◌, ◌+◌, ℕ, true, false, List, length, Option, Some};
+ghost use Rattle.std.specs.Prelude.{◌≡◌, ◌↔◌, ◌<◌, ◌^◌, ◌+◌, ℕ, true, false, List, length, Option, Some};
 ghost use Rattle.std.specs.FinMap.{empty, get};
 ghost use Rattle.kv_model.specs.Constants.{Constants, Secure};
 ghost use Rattle.kv_model.specs.declared.limits.TheConstants.{MAX_VALUE};
-ghost use Rattle.kv_model.specs.declared.call.Reply.TheVariants.{Done};
+ghost use Rattle.kv_model.specs.declared.call.Reply.TheVariants.{Done, Refused};
+ghost use Rattle.kv_model.specs.declared.error.KvError.TheVariants.{WriteProtected};
 ghost use Rattle.kv_model.specs.declared.call.Entry.{Entry};
 ghost use Rattle.kv_model.specs.History.{Follows};
 ghost use Rattle.kv_model.specs.FlaggedMap.{Stored};
@@ -15,11 +16,11 @@ ghost use Rattle.kv_model.specs.StoreState.{Maps, OpenSet, StoreState, fresh_sta
 ghost use Rattle.secure_record.specs.Sealed.{seal, sealed_vector, stored, tag};
 ghost use Rattle.secure_store.specs.declared.limits.TheConstants.{MAX_SECURE_VALUE, SEAL_SIZE};
 ghost use Rattle.secure_store.specs.Heal.{heal, IsHealed};
-ghost use Rattle.secure_store.specs.Laws.{HealsKey, LeavesOthers, MaySeal, ShowsOldOrSet, ShowsOldSetOrFailed, ShowsOthers, ShowsSet};
+ghost use Rattle.secure_store.specs.Laws.{HealsKey, LeavesOthers, MaySeal, MaySetNow, ShowsOldOrSet, ShowsOldSetOrFailed, ShowsOthers, ShowsSet};
 ghost use Rattle.secure_store.specs.Sealing.{tag_of};
 ghost use Rattle.secure_store.specs.Limits.{HasRooms, IsSecure};
 ghost use Rattle.secure_store.specs.View.{Absent, Held};
-ghost use Rattle.secure_store.specs.SecureStep.{secure_rules, secure_step, view};
+ghost use Rattle.secure_store.specs.SecureStep.{is_protected, secure_rules, secure_step, view};
 
 /// The rules of a secure store are rules of a store: what a call does is no refusal, a get, a part
 /// and an info read one value alike, and iterators are those of every store.
@@ -148,6 +149,15 @@ pub fn a_cut_shows_other_keys()
         → ShowsOthers constants state who (Remove key) key }
     ensures finish { (constants : Constants) (state : StoreState) (who : ℕ) (set : OpenSet)
         → state.open_set ≡ Some set → ShowsOthers constants state who Finish set.key }
+{}
+
+/// A set that nothing refuses before the stores are asked is refused as write-protected exactly
+/// where one of the two holds the key write-once.
+pub fn write_once_keys_are_refused()
+    ensures { (constants : Constants) (state : StoreState) (who : ℕ) (key value : List ℕ)
+        (flags : ℕ) → MaySetNow state key value flags
+        → ((secure_step constants state who (Set key value flags)).reply ≡ Refused WriteProtected)
+        ↔ (is_protected constants state key ≡ true) }
 {}
 
 /// A secure store begins within the limits of a state, and every call, fault and mount keeps them.
