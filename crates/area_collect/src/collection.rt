@@ -151,7 +151,8 @@ pub fn copy_without<F: Flash>(
     // where the image is told and the records stand in it, nothing but a fault refuses
     ensures told { ForSome (F.state flash.old).image (λ image. (records : List Write)
         → CanCopy (F.state flash.old).geometry image
-        (copy_of from.now to.now (remove table.now.entries left_out)) records → IfErr result IsFault) }
+        (copy_of from.now to.now (remove table.now.entries left_out)) records
+        → IfErr result IsFault) }
     ensures copied { IfOk result (λ end. HasCopied (F.state flash.old) (F.state flash.new)
         (copy_of from.now to.now (remove table.now.entries left_out))
         (record { end = end; entries = spare.new.entries }) (λ image. image)) }
