@@ -94,8 +94,8 @@ pub fn collect<F: Flash>(
         (kv_ended result) }
     ensures within { RunsBy (F.state flash.old) (F.state flash.new)
         (Within to.now.base (area_size (F.state flash.old).geometry)) (kv_ended result) }
-    // where the image mounts to a map and the entries are those of its keys, it mounts to that map at
-    // each moment, as far as chance goes, and behind Ok
+    // where the image mounts to a map and the entries are those of its keys, it mounts to that map
+    // at each moment, as far as chance goes, and behind Ok
     ensures keeps { RunsBy (F.state flash.old) (F.state flash.new)
         (KeepsMap (F.state flash.old) (copy_of from.now to.now table.now.entries) version)
         (kv_ended result) }
@@ -151,7 +151,8 @@ pub fn copy_without<F: Flash>(
     // where the image is told and the records stand in it, nothing but a fault refuses
     ensures told { ForSome (F.state flash.old).image (λ image. (records : List Write)
         → CanCopy (F.state flash.old).geometry image
-        (copy_of from.now to.now (remove table.now.entries left_out)) records → IfErr result IsFault) }
+        (copy_of from.now to.now (remove table.now.entries left_out)) records
+        → IfErr result IsFault) }
     ensures copied { IfOk result (λ end. HasCopied (F.state flash.old) (F.state flash.new)
         (copy_of from.now to.now (remove table.now.entries left_out))
         (record { end = end; entries = spare.new.entries }) (λ image. image)) }
