@@ -1,5 +1,5 @@
 -- What a collection does to a device.
-use Rattle.std.proofs.Common.{◌≡◌, ◌≢◌, ◌⊎◌, ℕ, zero, suc, ◌+◌, ◌-◌, ◌<◌, ◌≤◌, ◌==◌, if◌then◌else◌, Bool, true, false, List, [], ◌∷◌, ◌++◌, length, min, replicate, take, drop, refl, sym, ◌∙◌, ap, subst, arith, inl, inr, ⊎_elim, append_assoc, append-nil, eq-eqb}
+use Rattle.std.proofs.Common.{◌≡◌, ◌≢◌, ◌⊎◌, ℕ, zero, suc, ◌+◌, ◌-◌, ◌<◌, ◌≤◌, if◌then◌else◌, Bool, List, [], ◌∷◌, length, min, replicate, take, drop, sym, ◌∙◌, ap, subst, arith, inl, inr, ⊎_elim, eq-eqb}
 use Rattle.std.specs.Prelude.{Option, Some, None, Result, Ok, Err, IfOk, IfErr}
 use Rattle.std.specs.List.{remove}
 use Rattle.std.proofs.lemmas.List.Edits.{get_or-remove_above, get_or-remove_below, length-remove}
@@ -19,8 +19,8 @@ use Rattle.flash_core.specs.Runs.{Done, Ending, RunsBy}
 use Rattle.flash_core.specs.Sizes.{IsValid, area_size, size_of}
 use Rattle.flash_core.specs.State.{DeviceCall, FlashState, IsLawful}
 use Rattle.flash_core.proofs.EraseLaws.{IsErased-erased, Torn-erased, length-erased}
-use Rattle.flash_core.proofs.GeometryLaws.{erase_le_area, prog_positive, size-areas}
-use Rattle.flash_core.proofs.ImageLaws.{IsErased-within, Torn-refl, Torn-widen}
+use Rattle.flash_core.proofs.GeometryLaws.{erase_le_area, prog_positive}
+use Rattle.flash_core.proofs.ImageLaws.{IsErased-within, Torn-refl}
 use Rattle.flash_core.proofs.KeptLaws.{told_before}
 use Rattle.flash_core.proofs.MomentLaws.{Within-moment, Within-trans, Within-widen}
 use Rattle.flash_core.proofs.RunLaws.{runs_then, runs_weakened}
@@ -30,7 +30,7 @@ use Rattle.record_core.specs.Cuts.{base_of}
 use Rattle.record_core.specs.Log.{extent}
 use Rattle.record_core.proofs.LogLemmas.{extent-positive}
 use Rattle.record_core.specs.Record.{master_bytes}
-use Rattle.record_core.specs.Renewal.{BehindHeader, FillsArea, HeaderLast, RenewsArea, behind_header, blanked}
+use Rattle.record_core.specs.Renewal.{BehindHeader, FillsArea, RenewsArea, behind_header, blanked}
 use Rattle.record_core.specs.Written.{AppendsRecord, master_of}
 use Rattle.record_core.proofs.RenewalLemmas.{behind_more, complete_more, erased_fills, erases_fill, fill_more, master_completes}
 use Rattle.record_core.proofs.TornLemmas.{one_base, zero_base}
@@ -41,7 +41,7 @@ use Rattle.area_log.proofs.ScanLemmas.{walk_begins}
 use Rattle.ram_table.specs.declared.table.Entry.{Entry}
 use Rattle.area_collect.specs.declared.entries.Route.{Route}
 use Rattle.area_collect.specs.Copies.{AreIn, AreRead, Copied, Copy, HasCopiedMore, IsNotCopied, IsRoute, end_behind, moved, segment, spellings}
-use Rattle.area_collect.specs.Collection.{Collects, HasCopied, IsWhole, copy_of, number_of, with_copies, with_master}
+use Rattle.area_collect.specs.Collection.{HasCopied, IsWhole, number_of, with_copies, with_master}
 use Rattle.area_collect.proofs.EntryLemmas.{all_read_since, end_inside, end_length, end_whole, no_entry, not_copied_since}
 use Rattle.area_collect.proofs.PayloadLemmas.{erased_behind, some_is}
 use Rattle.area_collect.proofs.StandLemmas.{all_read_stand}

@@ -1,6 +1,6 @@
 -- What the copy of a record leaves.
-use Rattle.std.proofs.Common.{◌≡◌, ◌⊎◌, ℕ, ◌+◌, ◌-◌, ◌≤◌, List, ◌++◌, length, replicate, take, drop, refl, sym, ◌∙◌, ap, subst, arith, inl, inr, ⊎_elim, append_assoc, length-append}
-use Rattle.std.specs.Prelude.{Option, Some, None, Result, Ok, OnOk}
+use Rattle.std.proofs.Common.{◌≡◌, ℕ, ◌+◌, ◌-◌, ◌≤◌, List, ◌++◌, length, replicate, take, drop, sym, ◌∙◌, ap, subst, arith, inl, append_assoc, length-append}
+use Rattle.std.specs.Prelude.{Some}
 use Rattle.std.specs.Option.{ForSome}
 use Rattle.std.proofs.lemmas.List.{length-drop, length-take-le, take-append-drop}
 use Rattle.std.proofs.Math.Nat.{zero-mod}
@@ -8,7 +8,7 @@ use Rattle.base_core.specs.Units.{IsMultipleOf, up}
 use Rattle.base_core.proofs.UnitLemmas.{IsMultipleOf-add, unit_fits, up-ge, up-multiple}
 use Rattle.flash_core.specs.declared.geometry.Geometry.{Geometry}
 use Rattle.flash_core.specs.Calls.{CanProgram, OnlyReads}
-use Rattle.flash_core.specs.Images.{IsErased, put}
+use Rattle.flash_core.specs.Images.{put}
 use Rattle.flash_core.specs.Moments.{Within}
 use Rattle.flash_core.specs.Runs.{Done, Ending, ReadsBy, RunsBy}
 use Rattle.flash_core.specs.Sizes.{IsValid, size_of}
@@ -27,13 +27,13 @@ use Rattle.record_core.specs.Lookup.{HeadSeen, IsHead, IsSeen}
 use Rattle.record_core.specs.Record.{header_of, padded, record_bytes, record_header, record_payload}
 use Rattle.record_core.specs.Written.{CanWrite}
 use Rattle.record_core.proofs.LookupLemmas.{IsSeen-since}
-use Rattle.record_core.proofs.RecordLemmas.{length-header_bytes, length-padded, length-record_header, length-record_payload}
+use Rattle.record_core.proofs.RecordLemmas.{length-header_bytes, length-padded}
 use Rattle.record_core.proofs.WriterLemmas.{put-before}
 use Rattle.area_log.specs.Checked.{ChecksWrong}
-use Rattle.area_log.specs.Reading.{IsMismatch, IsRead, sum_of}
+use Rattle.area_log.specs.Reading.{IsMismatch, sum_of}
 use Rattle.kv_model.specs.declared.error.KvError.{KvError}
-use Rattle.area_collect.specs.Copies.{HasCopiedPayload, HasCopiedRecord, IsReadAt}
-use Rattle.area_collect.specs.Payload.{HasCopiedBytes, Piece}
+use Rattle.area_collect.specs.Copies.{HasCopiedPayload, HasCopiedRecord}
+use Rattle.area_collect.specs.Payload.{HasCopiedBytes}
 use Rattle.area_collect.proofs.PayloadLemmas.{erased_behind}
 
 -- the CRC that went on over a payload

@@ -1,10 +1,10 @@
 -- What copies of records leave, one behind another.
-use Rattle.std.proofs.Common.{◌≡◌, ◌⊎◌, ℕ, zero, suc, ◌+◌, ◌-◌, ◌<◌, ◌≤◌, min, List, [], ◌∷◌, ◌++◌, length, take, drop, refl, sym, ◌∙◌, ap, subst, arith, inl, inr, ⊎_elim, append_assoc, append-nil, length-append, add-one}
+use Rattle.std.proofs.Common.{◌≡◌, ◌⊎◌, ℕ, zero, suc, ◌+◌, ◌-◌, ◌<◌, ◌≤◌, List, [], ◌∷◌, ◌++◌, length, take, drop, refl, sym, ◌∙◌, ap, subst, arith, inl, inr, ⊎_elim, append_assoc, append-nil, length-append, add-one}
 use Rattle.std.specs.List.{remove}
 use Rattle.std.proofs.lemmas.List.{drop-drop, get_or-drop, get_or_append_left, length-drop, take_more, take_rest}
 use Rattle.std.proofs.lemmas.Bool.{cases_lt}
 use Rattle.std.proofs.Math.Seq.{get_or-append_seam, take-add, take-length}
-use Rattle.std.specs.Prelude.{Option, Some, None, Result, Ok, Err, IfErr, IsErrAnd}
+use Rattle.std.specs.Prelude.{Some, Result, Ok, Err, IfErr, IsErrAnd}
 use Rattle.std.specs.Option.{ForSome}
 use Rattle.base_core.specs.Units.{IsMultipleOf, up}
 use Rattle.base_core.proofs.UnitLemmas.{IsMultipleOf-add, up-ge, up-multiple}
@@ -13,20 +13,19 @@ use Rattle.flash_core.specs.Calls.{Keeps}
 use Rattle.flash_core.specs.Images.{IsErased, put}
 use Rattle.flash_core.specs.Moments.{Within}
 use Rattle.flash_core.specs.Runs.{Done, RunsBy}
-use Rattle.flash_core.specs.Sizes.{IsValid, area_size, size_of}
+use Rattle.flash_core.specs.Sizes.{IsValid, size_of}
 use Rattle.flash_core.specs.State.{FlashState, IsLawful}
-use Rattle.flash_core.proofs.GeometryLaws.{prog_positive, size-areas}
+use Rattle.flash_core.proofs.GeometryLaws.{prog_positive}
 use Rattle.flash_core.proofs.ImageLaws.{IsErased-Torn, IsErased-within, Torn-put, put-append, put-nil}
 use Rattle.flash_core.proofs.KeptLaws.{told_before}
 use Rattle.kv_model.specs.declared.error.KvError.{KvError}
 use Rattle.kv_model.specs.Write.{Write}
 use Rattle.record_core.specs.declared.header.Header.{Header}
 use Rattle.record_core.specs.Log.{extent, spelling_of}
-use Rattle.record_core.specs.Lookup.{HeadBroken, HeadSeen, IsHead, IsSeen}
+use Rattle.record_core.specs.Lookup.{IsHead, IsSeen}
 use Rattle.record_core.proofs.RecordLemmas.{length-record_bytes}
 use Rattle.area_log.specs.declared.area.Area.{Area}
-use Rattle.area_log.specs.Areas.{end_of, IsAreaOf, IsEnd, IsRange}
-use Rattle.area_log.specs.Reading.{IsMismatch}
+use Rattle.area_log.specs.Areas.{end_of, IsEnd, IsRange}
 use Rattle.area_log.proofs.AreaLemmas.{area_fits}
 use Rattle.ram_table.specs.declared.table.Entry.{Entry}
 use Rattle.ram_table.specs.Table.{entry_at}

@@ -1,11 +1,8 @@
 -- What a collection keeps of an image whose records it copies.
-use Rattle.std.proofs.Common.{◌≡◌, ◌≢◌, ◌⊎◌, ℕ, zero, suc, ◌+◌, ◌-◌, ◌%◌, ◌^◌, ◌<◌, ◌≤◌, ◌==◌, if◌then◌else◌, Bool, min, List, [], ◌∷◌, ◌++◌, length, take, drop, IsTrue, refl, sym, ◌∙◌, ap, subst, arith, inl, inr, ⊎_elim, append-nil, length-append, eq-eqb, Some, None}
+use Rattle.std.proofs.Common.{◌≡◌, ◌⊎◌, ℕ, ◌+◌, ◌-◌, ◌%◌, ◌^◌, ◌<◌, ◌≤◌, if◌then◌else◌, Bool, List, [], ◌∷◌, ◌++◌, length, refl, sym, ◌∙◌, ap, subst, arith, inl, inr, ⊎_elim, length-append, eq-eqb, Some}
 use Rattle.std.specs.Prelude.{Option, Result, Ok, Err, IfErr}
-use Rattle.std.specs.Option.{ForSome}
 use Rattle.std.proofs.lemmas.Bool.{ne_eqb}
-use Rattle.std.proofs.Math.Seq.{take-append_seam, drop-append_seam}
 use Rattle.base_core.specs.Sizes.{master_size}
-use Rattle.base_core.specs.Units.{up}
 use Rattle.flash_core.specs.declared.geometry.Geometry.{Geometry}
 use Rattle.flash_core.specs.Images.{IsErased, Torn, part, put}
 use Rattle.flash_core.specs.Erases.{erased_from}
@@ -14,40 +11,36 @@ use Rattle.flash_core.specs.Runs.{Ending, RunsBy}
 use Rattle.flash_core.specs.State.{DeviceCall, FlashState, IsLawful}
 use Rattle.flash_core.proofs.RunLaws.{runs_weakened}
 use Rattle.flash_core.proofs.EraseLaws.{IsErased-erased, Torn-erased, length-erased}
-use Rattle.flash_core.proofs.GeometryLaws.{prog_positive, size-areas}
-use Rattle.flash_core.proofs.ImageLaws.{IsErased-Torn, IsErased-within, Torn-put, Torn-trans, Torn-widen, length-put, part-append, put-append}
+use Rattle.flash_core.proofs.GeometryLaws.{prog_positive}
+use Rattle.flash_core.proofs.ImageLaws.{IsErased-Torn, IsErased-within, Torn-put, Torn-trans, Torn-widen, length-put, put-append}
 use Rattle.kv_model.specs.declared.error.KvError.{KvError}
 use Rattle.kv_model.specs.declared.error.KvError.TheVariants as error
 use Rattle.kv_model.specs.declared.call.Got.{Got}
 use Rattle.kv_model.specs.FlaggedMap.{FlaggedMap}
 use Rattle.kv_model.specs.Write.{Write, map_of}
-use Rattle.record_core.specs.declared.header.Header.{Header}
 use Rattle.record_core.specs.CutMoments.{CutStrictly, MountsToOne}
-use Rattle.record_core.specs.Cuts.{active_of, base_of, version_of}
-use Rattle.record_core.specs.Header.{header_bytes}
+use Rattle.record_core.specs.Cuts.{base_of, version_of}
 use Rattle.record_core.specs.Log.{AreAllRecords, AreRecords, IsRecordAt, extent, spelling_of}
 use Rattle.record_core.specs.Lookup.{HeadBroken, IsReadFault}
 use Rattle.record_core.specs.Mounts.{ActiveRecords, Contents, Holds, MasterAt, Mounts, active_area}
-use Rattle.record_core.specs.Record.{IsMaster, header_of, master_bytes}
-use Rattle.record_core.specs.Renewal.{HeaderLast, IsSpare, RenewsArea}
-use Rattle.record_core.proofs.Existence.{master_within}
-use Rattle.record_core.proofs.HeaderLemmas.{SameSizes, same_sizes}
-use Rattle.record_core.proofs.LogLemmas.{AreRecords-Torn, IsRecordAt-put, IsRecordAt-Torn, all_before_erased, extent-positive, header_at, key_at, value_at}
+use Rattle.record_core.specs.Record.{IsMaster, master_bytes}
+use Rattle.record_core.specs.Renewal.{IsSpare, RenewsArea}
+use Rattle.record_core.proofs.LogLemmas.{AreRecords-Torn, IsRecordAt-put, IsRecordAt-Torn, all_before_erased}
 use Rattle.record_core.proofs.MapCuts.{renew_map}
 use Rattle.record_core.proofs.MountLemmas.{IsMaster-put, length-master_bytes}
 use Rattle.record_core.proofs.RecordLemmas.{length-record_bytes}
 use Rattle.record_core.proofs.RenewalCuts.{cut_weakened}
 use Rattle.record_core.proofs.TornLemmas.{master_at, master_stays, one_base, zero_base}
 use Rattle.area_log.specs.declared.area.Area.{Area}
-use Rattle.area_log.specs.Areas.{end_of, first_place, IsAreaOf}
+use Rattle.area_log.specs.Areas.{end_of, first_place}
 use Rattle.area_log.proofs.AreaLemmas.{area_fits}
 use Rattle.area_log.proofs.ReadLemmas.{value_of_record}
 use Rattle.area_log.specs.Reading.{IsNotRead}
 use Rattle.ram_table.specs.declared.table.Entry.{Entry}
 use Rattle.area_collect.specs.declared.entries.Route.{Route}
-use Rattle.area_collect.specs.Copies.{AreRead, Copy, IsNotCopied, IsNotReadAt, IsReadAt, IsRoute, end_behind, room_for, spellings}
+use Rattle.area_collect.specs.Copies.{AreRead, Copy, IsNotCopied, IsNotReadAt, IsRoute, end_behind, room_for, spellings}
 use Rattle.area_collect.specs.Collection.{CanCopy, Collects, IsWhole, StandAt, number_of, with_copies, with_master}
-use Rattle.area_collect.specs.Kept.{CanCollect, Follows, KeepsMap, StandForMap}
+use Rattle.area_collect.specs.Kept.{CanCollect, Follows, KeepsMap}
 use Rattle.area_collect.specs.Payload.{IsFault}
 use Rattle.area_collect.proofs.CollectLemmas.{base_is, number_is}
 use Rattle.area_collect.proofs.EntryLemmas.{areas_apart, end_length}

@@ -1,6 +1,6 @@
 -- What copies of bytes leave, one behind another.
 use Rattle.std.proofs.Common.{◌≡◌, ◌⊎◌, ℕ, ◌+◌, ◌-◌, ◌*◌, ◌/◌, ◌<◌, ◌≤◌, min, List, [], ◌++◌, length, replicate, refl, sym, ◌∙◌, ap, subst, arith, inl, inr, ⊎_elim, append_assoc, append-nil, length-append}
-use Rattle.std.specs.Prelude.{Option, Some, None, Result, Ok, Err}
+use Rattle.std.specs.Prelude.{Some, Result}
 use Rattle.std.specs.Option.{ForSome}
 use Rattle.std.proofs.lemmas.List.{length-replicate}
 use Rattle.base_core.specs.Units.{IsMultipleOf, up}
@@ -8,22 +8,20 @@ use Rattle.std.proofs.Math.Nat.{zero-mod}
 use Rattle.std.proofs.lemmas.Bool.{cases_lt}
 use Rattle.base_core.proofs.UnitLemmas.{IsMultipleOf-add, unit_fits, up-is_least, up-multiple}
 use Rattle.flash_core.specs.declared.flash.FlashFault.{FlashFault}
-use Rattle.flash_core.specs.Calls.{CanProgram, Keeps, OnlyReads, Writes}
-use Rattle.flash_core.specs.Images.{IsErased, Torn, part, put}
+use Rattle.flash_core.specs.Calls.{CanProgram, Writes}
+use Rattle.flash_core.specs.Images.{IsErased, put}
 use Rattle.flash_core.specs.Moments.{Within}
-use Rattle.flash_core.specs.Runs.{Done, Ending, ReadsBy, RunsBy, ended}
+use Rattle.flash_core.specs.Runs.{Done, Ending, RunsBy, ended}
 use Rattle.flash_core.specs.Sizes.{IsValid, size_of}
-use Rattle.flash_core.specs.State.{DeviceCall, FlashState, IsLawful}
-use Rattle.flash_core.proofs.GeometryLaws.{prog_positive}
-use Rattle.flash_core.proofs.ImageLaws.{IsErased-Torn, Torn-put, Torn-refl, Torn-widen, part-Torn, put-append, put-nil}
+use Rattle.flash_core.specs.State.{FlashState, IsLawful}
+use Rattle.flash_core.proofs.ImageLaws.{IsErased-Torn, Torn-refl, part-Torn, put-append, put-nil}
 use Rattle.flash_core.proofs.KeptLaws.{CanProgram-kept, told_after, told_before}
-use Rattle.flash_core.proofs.MomentLaws.{Within-Torn, Within-moment, Within-trans, Within-widen}
+use Rattle.flash_core.proofs.MomentLaws.{Within-moment, Within-trans, Within-widen}
 use Rattle.flash_core.proofs.RunLaws.{one_write, runs_none, runs_reads, runs_then, runs_weakened}
 use Rattle.kv_model.specs.declared.error.KvError.{KvError}
-use Rattle.kv_model.specs.declared.error.KvError.TheVariants as error
 use Rattle.kv_model.specs.Crc.{crc_from}
 use Rattle.kv_model.proofs.CrcLemmas.{crc_from-append}
-use Rattle.record_core.specs.Endings.{kv_ended, kv_ending}
+use Rattle.record_core.specs.Endings.{kv_ended}
 use Rattle.record_core.specs.Lookup.{IsSeen}
 use Rattle.record_core.specs.Reading.{HasRead}
 use Rattle.record_core.specs.Written.{CanWrite}
@@ -31,7 +29,7 @@ use Rattle.record_core.proofs.LookupLemmas.{IsSeen-more}
 use Rattle.record_core.proofs.ReaderLemmas.{has_read_by}
 use Rattle.record_core.proofs.WriterLemmas.{IsStep, next_step}
 use Rattle.flash_core.specs.declared.geometry.Geometry.{Geometry}
-use Rattle.area_collect.specs.Payload.{AreApart, HasCopiedBytes, Piece}
+use Rattle.area_collect.specs.Payload.{AreApart, HasCopiedBytes}
 
 pub some_is : {X : Type 0} (x y : X) → Some x ≡ Some y → x ≡ y
 some_is x y same = cc

@@ -1,5 +1,5 @@
 -- A collection: the records that still count are copied to the other area, which then becomes the active one.
-use Rattle.std.specs.Prelude.{◌≡◌, ◌≢◌, ◌⊎◌, ℕ, ◌+◌, ◌%◌, ◌^◌, ◌<◌, ◌≤◌, ◌==◌, if◌then◌else◌, List, [], ◌∷◌, length, Option, Some}
+use Rattle.std.specs.Prelude.{◌≡◌, ℕ, ◌+◌, ◌≤◌, ◌==◌, if◌then◌else◌, List, [], ◌∷◌, Option, Some}
 use Rattle.std.specs.Option.{ForSome}
 use Rattle.flash_core.specs.declared.geometry.Geometry.{Geometry}
 use Rattle.flash_core.specs.Erases.{erased_from}
@@ -13,7 +13,6 @@ use Rattle.record_core.specs.Renewal.{RenewsArea}
 use Rattle.area_log.specs.declared.area.Area.{Area}
 use Rattle.area_log.specs.Areas.{end_of, first_place, IsEnd}
 use Rattle.ram_table.specs.declared.table.Entry.{Entry}
-use Rattle.area_collect.specs.declared.entries.Route.{Route}
 use Rattle.area_collect.specs.Copies.{AreIn, AreRead, Copied, Copy, end_behind, moved, spellings}
 
 -- the number of an area

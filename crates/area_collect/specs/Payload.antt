@@ -1,5 +1,5 @@
 -- Bytes copied from one place of a device to another.
-use Rattle.std.specs.Prelude.{◌≡◌, ◌⊎◌, ℕ, ◌+◌, ◌≤◌, List, ◌++◌, length, replicate, Some}
+use Rattle.std.specs.Prelude.{◌≡◌, ◌⊎◌, ℕ, ◌+◌, ◌≤◌, List, ◌++◌, replicate, Some}
 use Rattle.std.specs.Option.{ForSome}
 use Rattle.flash_core.specs.Images.{put}
 use Rattle.flash_core.specs.State.{FlashState}

@@ -94,8 +94,8 @@ pub fn collect<F: Flash>(
         (kv_ended result) }
     ensures within { RunsBy (F.state flash.old) (F.state flash.new)
         (Within to.now.base (area_size (F.state flash.old).geometry)) (kv_ended result) }
-    // where the image mounts to a map and the entries are those of its keys, it mounts to that map at
-    // each moment, as far as chance goes, and behind Ok
+    // where the image mounts to a map and the entries are those of its keys, it mounts to that map
+    // at each moment, as far as chance goes, and behind Ok
     ensures keeps { RunsBy (F.state flash.old) (F.state flash.new)
         (KeepsMap (F.state flash.old) (copy_of from.now to.now table.now.entries) version)
         (kv_ended result) }

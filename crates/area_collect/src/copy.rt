@@ -100,7 +100,8 @@ fn program_header<F: Flash>(
     program_units(flash, place, units)
 }
 
-// Copies the payload of the record of this header, and checks the record's CRC over what was copied.
+// Copies the payload of the record of this header, and checks the record's CRC over what was
+// copied.
 fn copy_checked<F: Flash>(
     flash: &mut F,
     source: u32,

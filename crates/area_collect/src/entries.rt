@@ -67,8 +67,8 @@ fn copy_entry<F: Flash>(
     Ok(behind)
 }
 
-/// Copies the records of the entries from `first` to `last`, in this order, each directly behind the
-/// one before, and adds their entries. They begin at `end`; the answer is the place behind them.
+/// Copies the records of the entries from `first` to `last`, in this order, each directly behind
+/// the one before, and adds their entries. They begin at `end`; the answer is the place behind them.
 pub(crate) fn copy_entries<F: Flash>(
     flash: &mut F,
     route: Route,

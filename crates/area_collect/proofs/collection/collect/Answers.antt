@@ -1,13 +1,13 @@
-use Rattle.std.proofs.Common.{◌≡◌, ℕ, ◌+◌, ◌-◌, ◌≤◌, List, [], ◌++◌, length, refl, sym, ◌∙◌, ap, subst, arith, inl, inr, ⊎_elim, append-nil}
+use Rattle.std.proofs.Common.{◌≡◌, ℕ, ◌-◌, ◌≤◌, List, ◌∙◌, ap, subst, arith, inl, inr, ⊎_elim}
 use Rattle.record_core.proofs.EndingLemmas.{handed_error}
 use Rattle.area_log.specs.declared.area.Area.{Area}
 use Rattle.area_log.specs.Areas.{end_of, first_place}
 use Rattle.ram_table.specs.declared.table.Entry.{Entry}
 use Rattle.area_collect.specs.declared.entries.Route.{Route}
-use Rattle.area_collect.specs.Copies.{Copied, HasCopiedMore, IsNotCopied, IsRoute, segment}
+use Rattle.area_collect.specs.Copies.{Copied, IsNotCopied, IsRoute, segment}
 use Rattle.area_collect.specs.Collection.{HasCopied, IsWhole, copy_of, number_of}
-use Rattle.area_collect.proofs.CollectLemmas.{Filling, collected_made, copies_made, erased_filling, fill_renews, fill_runs, fill_within, filling_more, master_erased, master_renews, not_copied_before, renew_within, same_copies, start_end, start_erased, start_inside, whole_made}
-use Rattle.area_collect.proofs.EntryLemmas.{copied_more_records, handed_cause, not_copied_ahead, not_copied_more, segment_all, segment_without}
+use Rattle.area_collect.proofs.CollectLemmas.{Filling, collected_made, copies_made, erased_filling, fill_renews, fill_runs, filling_more, master_erased, master_renews, not_copied_before, renew_within, same_copies, start_end, start_erased, start_inside, whole_made}
+use Rattle.area_collect.proofs.EntryLemmas.{handed_cause, segment_all}
 use Rattle.area_collect.proofs.KeptLemmas.{keeps_runs, only_faults}
 use Rattle.area_collect.proofs.collection.collect.Goals as goal
 

@@ -1,4 +1,4 @@
-use Rattle.std.proofs.Common.{◌≡◌, ℕ, ◌+◌, ◌-◌, ◌≤◌, List, [], ◌++◌, length, refl, sym, ◌∙◌, ap, subst, arith, inl, inr, ⊎_elim, append-nil}
+use Rattle.std.proofs.Common.{◌≡◌, ℕ, ◌+◌, ◌-◌, ◌≤◌, List, ◌++◌, length, refl, sym, ◌∙◌, ap, subst, arith, inl, inr, ⊎_elim}
 use Rattle.std.specs.List.{remove}
 use Rattle.flash_core.specs.declared.geometry.Geometry.{Geometry}
 use Rattle.flash_core.specs.Sizes.{IsValid}
@@ -7,7 +7,7 @@ use Rattle.area_log.specs.declared.area.Area.{Area}
 use Rattle.area_log.specs.Areas.{end_of, first_place}
 use Rattle.ram_table.specs.declared.table.Entry.{Entry}
 use Rattle.area_collect.specs.declared.entries.Route.{Route}
-use Rattle.area_collect.specs.Copies.{AreIn, Copied, HasCopiedMore, IsNotCopied, IsRoute, segment}
+use Rattle.area_collect.specs.Copies.{AreIn, Copied, IsNotCopied, IsRoute, segment}
 use Rattle.area_collect.specs.Collection.{copy_of, number_of}
 use Rattle.area_collect.proofs.CollectLemmas.{Filling, if_err_map, if_ok_map, remove_in, segment_in, copies_made, erased_filling, fill_runs, fill_within, filling_more, not_copied_before, same_copies, start_end, start_erased, start_inside}
 use Rattle.area_collect.proofs.EntryLemmas.{copied_more_records, end_at, handed_cause, not_copied_ahead, not_copied_more, segment_without}

@@ -1,4 +1,4 @@
-use Rattle.std.proofs.Common.{◌≡◌, ℕ, ◌+◌, ◌≤◌, length, refl, sym, ◌∙◌, ap, subst, arith}
+use Rattle.std.proofs.Common.{◌≡◌, ℕ, ◌+◌, ◌≤◌, length, sym, ◌∙◌, ap, subst, arith}
 use Rattle.base_core.specs.Sizes.{record_size}
 use Rattle.base_core.specs.Units.{up}
 use Rattle.base_core.proofs.UnitLemmas.{up-ge}
@@ -8,7 +8,7 @@ use Rattle.flash_core.specs.Sizes.{size_of}
 use Rattle.flash_core.proofs.GeometryLaws.{prog_positive}
 use Rattle.record_core.proofs.EndingLemmas.{handed_error}
 use Rattle.record_core.proofs.WriterLemmas.{header_in_work}
-use Rattle.area_collect.proofs.CopyLemmas.{can_program_front, can_write_behind, mismatch_of, reads_then_within, record_copied}
+use Rattle.area_collect.proofs.CopyLemmas.{can_program_front, can_write_behind, reads_then_within, record_copied}
 use Rattle.area_collect.proofs.PayloadLemmas.{within_then, within_wider}
 use Rattle.area_collect.proofs.copy.copy_record.Goals as goal
 

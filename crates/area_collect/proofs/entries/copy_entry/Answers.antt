@@ -1,18 +1,14 @@
-use Rattle.std.proofs.Common.{◌≡◌, ℕ, ◌+◌, ◌-◌, ◌++◌, min, List, [], ◌∷◌, length, refl, sym, ◌∙◌, ap, subst, arith, append-nil, inl, inr, ⊎_elim, Some}
+use Rattle.std.proofs.Common.{◌≡◌, ℕ, ◌+◌, ◌-◌, ◌++◌, min, List, [], ◌∷◌, refl, sym, ◌∙◌, ap, subst, arith, append-nil, inl, inr, ⊎_elim, Some}
 use Rattle.std.specs.List.{insert}
 use Rattle.std.proofs.lemmas.List.Edits.{insert_end}
 use Rattle.flash_core.specs.Images.{put}
-use Rattle.flash_core.specs.Moments.{Within}
-use Rattle.flash_core.specs.Runs.{Done, RunsBy}
-use Rattle.kv_model.specs.declared.error.KvError.{KvError}
 use Rattle.record_core.proofs.EndingLemmas.{handed_error}
 use Rattle.record_core.specs.Log.{spelling_of}
 use Rattle.area_log.specs.Areas.{end_of}
 use Rattle.area_log.proofs.AreaLemmas.{area_fits}
 use Rattle.ram_table.specs.declared.table.Entry.{Entry}
 use Rattle.ram_table.specs.Table.{entry_at}
-use Rattle.area_collect.specs.Copies.{IsNotCopied, IsNotReadAt, IsReadAt, room_for}
-use Rattle.area_collect.specs.Payload.{IsFault}
+use Rattle.area_collect.specs.Copies.{IsNotReadAt, IsReadAt, room_for}
 use Rattle.area_collect.proofs.EntryLemmas.{end_of_copies, handed_cause, rest_erased}
 use Rattle.area_collect.proofs.PayloadLemmas.{within_wider}
 use Rattle.area_collect.proofs.entries.copy_entry.Goals as goal

@@ -1,14 +1,14 @@
-use Rattle.std.proofs.Common.{◌≡◌, ℕ, ◌+◌, ◌-◌, ◌<◌, ◌≤◌, min, List, length, take, refl, sym, ◌∙◌, ap, subst, arith}
+use Rattle.std.proofs.Common.{◌≡◌, ℕ, ◌+◌, ◌-◌, ◌<◌, min, length, take, refl, sym, ◌∙◌, ap, subst, arith}
 use Rattle.std.proofs.Math.Nat.{zero-mod}
 use Rattle.std.proofs.lemmas.List.{length-take-le}
 use Rattle.base_core.specs.Units.{up}
-use Rattle.base_core.proofs.UnitLemmas.{IsMultipleOf-add, up-ge, up-multiple}
+use Rattle.base_core.proofs.UnitLemmas.{IsMultipleOf-add, up-ge}
 use Rattle.flash_core.specs.declared.geometry.Geometry.{Geometry}
 use Rattle.flash_core.specs.Calls.{CanProgram}
 use Rattle.flash_core.specs.Sizes.{size_of}
 use Rattle.flash_core.proofs.GeometryLaws.{prog_positive}
 use Rattle.record_core.proofs.EndingLemmas.{handed_error}
-use Rattle.area_collect.proofs.PayloadLemmas.{IsNextPiece, all_copied, can_program_more, copied_more, copied_none, next_piece_is, piece_step, within_none, within_then, within_wider}
+use Rattle.area_collect.proofs.PayloadLemmas.{all_copied, can_program_more, copied_more, copied_none, next_piece_is, piece_step, within_none, within_then, within_wider}
 use Rattle.area_collect.proofs.payload.copy_payload.Goals as goal
 
 pub loop-done-init : goal.loop-done-init

@@ -1,4 +1,4 @@
-use Rattle.std.proofs.Common.{◌≡◌, ◌-◌, ◌≤◌, min}
+use Rattle.std.proofs.Common.{◌-◌, ◌≤◌, min}
 use Rattle.base_core.specs.Units.{IsMultipleOf, up}
 use Rattle.flash_core.specs.Moments.{Within}
 use Rattle.flash_core.specs.Runs.{Done, RunsBy}

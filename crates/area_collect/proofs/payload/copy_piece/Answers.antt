@@ -1,6 +1,5 @@
 use Rattle.std.proofs.Common.{◌≡◌, ℕ, ◌-◌, ◌++◌, List, length, replicate, ◌∙◌, ap, arith, rules, Some}
 use Rattle.std.specs.Prelude.{Ok}
-use Rattle.std.proofs.lemmas.List.{length-replicate}
 use Rattle.flash_core.specs.Images.{part, put}
 use Rattle.record_core.proofs.EndingLemmas.{handed_error}
 use Rattle.area_collect.proofs.PayloadLemmas.{read_within, same_units, within_then}

@@ -1,4 +1,4 @@
-use Rattle.std.proofs.Common.{length, sym, subst}
+use Rattle.std.proofs.Common.{length, subst}
 use Rattle.std.specs.Prelude.{Ok, Err}
 use Rattle.flash_core.specs.declared.flash.FlashFault.{FlashFault}
 use Rattle.flash_core.specs.Moments.{Within}
