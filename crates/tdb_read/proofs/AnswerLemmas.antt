@@ -1,11 +1,8 @@
 -- A call that only reads is one of a plain store.
-use Rattle.std.proofs.Common.{◌≡◌, ◌≢◌, ◌⊎◌, ℕ, ◌≤◌, Bool, true, false, List, [], ◌∷◌, inl, inr, refl, sym, ◌∙◌, ap, subst, arith}
+use Rattle.std.proofs.Common.{◌≡◌, ℕ, Bool, true, false, List, [], ◌∷◌, inl, refl, sym, ◌∙◌, ap, subst, arith}
 use Rattle.std.specs.Prelude.{IsTrue, Option, Some, None, is_some}
 use Rattle.std.specs.Option.{ForSome, option_map}
-use Rattle.base_core.specs.Counts.{Rose}
 use Rattle.flash_core.specs.declared.geometry.Geometry.{Geometry}
-use Rattle.flash_core.specs.Calls.{OnlyReads}
-use Rattle.flash_core.specs.State.{FlashState}
 use Rattle.kv_model.specs.declared.call.Reply.{Reply}
 use Rattle.kv_model.specs.declared.call.Reply.TheVariants.{Refused}
 use Rattle.kv_model.specs.declared.error.KvError.{KvError}
@@ -13,17 +10,16 @@ use Rattle.kv_model.specs.declared.error.KvError.TheVariants.{Corrupt, Memory, R
 use Rattle.kv_model.specs.Checks.{may_fail_reading}
 use Rattle.kv_model.specs.Constants.{Constants}
 use Rattle.kv_model.specs.FlaggedMap.{FlaggedMap}
-use Rattle.kv_model.specs.Kv.{Answered, Answers, Does, IsCause, Keeps, Kind, LeadsTo, Ruled, FailedRead, Mismatched, TellsOnly, UnlessFailedWrite, Wanted, kind_of, may_end, reads, takes_memory}
+use Rattle.kv_model.specs.Kv.{Answered, Answers, IsCause, Keeps, Kind, LeadsTo, Ruled, FailedRead, Mismatched, TellsOnly, UnlessFailedWrite, Wanted, kind_of, may_end, reads, takes_memory}
 use Rattle.kv_model.specs.LogStep.{LogFollows}
 use Rattle.kv_model.specs.Opening.{Log, Opening}
 use Rattle.kv_model.specs.Operations.{Operation}
 use Rattle.kv_model.specs.PlainStep.{plain_checks, plain_rules, plain_step}
-use Rattle.kv_model.specs.Rules.{Outcome, step}
 use Rattle.kv_model.specs.StoreState.{OpenSet, StoreState}
 use Rattle.record_core.specs.Mounts.{Mounts}
 use Rattle.tdb_read.specs.Reads.{IsReadRefusal}
 use Rattle.tdb_read.specs.States.{IsUnlikely, MapLeft, constants_of, crash_of, kv_state, log_in, state_in}
-use Rattle.tdb_read.specs.Views.{HasOnlyRead, HasRead, LogPart, LogView}
+use Rattle.tdb_read.specs.Views.{HasRead, LogPart, LogView}
 
 is_some_map : {X Y : Type 0} (f : X → Y) (o : Option X) → is_some (option_map f o) ≡ is_some o
 is_some_map f None = refl

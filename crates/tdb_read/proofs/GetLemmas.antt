@@ -1,8 +1,6 @@
 -- A get and an info of a key that was looked up are calls of a plain store.
-use Rattle.std.proofs.Common.{◌≡◌, ◌≢◌, ◌⊎◌, ℕ, ◌+◌, ◌-◌, ◌≤◌, ◌<◌, min, Bool, true, false, List, length, take, drop, inl, inr, refl, sym, ◌∙◌, ap, subst, arith}
-use Rattle.std.specs.Prelude.{not, nat_lt, IsTrue, Option, Some, None, MatchBool, Result, Ok, Err, IfOk}
-use Rattle.std.specs.FinMap as map
-use Rattle.std.specs.Option.{ForSome, option_map}
+use Rattle.std.proofs.Common.{◌≡◌, ℕ, ◌+◌, ◌-◌, ◌≤◌, ◌<◌, Bool, true, false, List, length, take, inl, inr, refl, sym, ◌∙◌, ap, subst, arith}
+use Rattle.std.specs.Prelude.{not, nat_lt, Option, Some, MatchBool, Result, Ok, Err, IfOk}
 use Rattle.std.proofs.lemmas.Bool.Decides.{nat_tests}
 use mathlib.Core.Bool.{false≢true}
 use Rattle.base_core.proofs.CountLemmas.{Rose-since}
@@ -14,8 +12,7 @@ use Rattle.kv_model.specs.declared.call.Got.{Got}
 use Rattle.kv_model.specs.declared.call.Reply.TheVariants.{Facts, Refused, Value}
 use Rattle.kv_model.specs.declared.error.KvError.{KvError}
 use Rattle.kv_model.specs.declared.error.KvError.TheVariants.{Corrupt, InvalidSize, ReadFault}
-use Rattle.kv_model.specs.Constants.{Constants}
-use Rattle.kv_model.specs.Given.{IsGot, facts_or, got_or}
+use Rattle.kv_model.specs.Given.{IsGot, got_or}
 use Rattle.kv_model.specs.Keys.{is_key}
 use Rattle.kv_model.specs.Kv.{Answers, answered}
 use Rattle.kv_model.specs.Operations.{Info, Part}

@@ -1,25 +1,24 @@
 -- The calls on iterators are calls of a plain store.
-use Rattle.std.proofs.Common.{◌≡◌, ◌⊎◌, ℕ, Bool, true, false, List, take, inl, inr, refl, sym, ◌∙◌, ap, subst}
-use Rattle.std.specs.Prelude.{if◌then◌else◌, not, ◌&&◌, nat_le, Option, Some, None, Result, Ok, Err, IfErr, OnOk, OnErr}
-use Rattle.std.specs.Option.{ForSome, unwrap_or}
+use Rattle.std.proofs.Common.{◌≡◌, ℕ, Bool, true, false, List, inl, inr, refl, sym, ◌∙◌, ap, subst}
+use Rattle.std.specs.Prelude.{if◌then◌else◌, not, Option, Some, None, Result, Ok, Err, IfErr, OnOk, OnErr}
+use Rattle.std.specs.Option.{unwrap_or}
 use Rattle.std.specs.FinMap as map
 use Rattle.flash_core.proofs.KeptLaws.{OnlyReads-refl}
-use Rattle.kv_model.specs.declared.limits.TheConstants.{MAX_ITERATORS}
 use Rattle.kv_model.specs.declared.call.Reply.TheVariants.{Done, End, Found, Refused}
 use Rattle.kv_model.specs.declared.error.KvError.{KvError}
 use Rattle.kv_model.specs.declared.error.KvError.TheVariants.{InvalidKey, Memory, NoIterator, TooManyIterators}
 use Rattle.kv_model.specs.Constants.{Constants}
-use Rattle.kv_model.specs.Given.{done_or, found_or}
+use Rattle.kv_model.specs.Given.{done_or}
 use Rattle.kv_model.specs.Keys.{is_prefix}
 use Rattle.kv_model.specs.Kv.{Answers, Ruled, answered, kind_of}
 use Rattle.kv_model.specs.NextKey.{IsNext, next_key}
 use Rattle.kv_model.specs.Operations.{Next, OpenIterator}
-use Rattle.kv_model.specs.PlainStep.{plain_rules, plain_step}
-use Rattle.kv_model.specs.Rules.{Outcome, refused_or}
+use Rattle.kv_model.specs.PlainStep.{plain_rules}
+use Rattle.kv_model.specs.Rules.{refused_or}
 use Rattle.kv_model.specs.StoreState.{Iterators, OpenSet, StoreState}
 use Rattle.kv_model.proofs.NextKeyLemmas.{next_key_is_least}
-use Rattle.kv_iters.specs.Calls.{advanced, has_no_place, is_active, position_of, start_refusal, started, use_refusal}
-use Rattle.tdb_read.specs.Reads.{GivesNext, IsReadRefusal, map_in}
+use Rattle.kv_iters.specs.Calls.{advanced, has_no_place, position_of, start_refusal, started}
+use Rattle.tdb_read.specs.Reads.{GivesNext, map_in}
 use Rattle.tdb_read.specs.States.{constants_of, kv_state, state_in}
 use Rattle.tdb_read.specs.Views.{HasOnlyRead, HasRead, LogPart, LogView}
 use Rattle.tdb_read.proofs.AnswerLemmas.{refused, ruled, wanted}

@@ -1,18 +1,18 @@
 -- What a log stands for, and what it is as a store.
 use Rattle.std.proofs.Common.{◌≡◌, ℕ, List, refl, subst}
-use Rattle.std.specs.Prelude.{Option, Some, MatchOption, Contains}
+use Rattle.std.specs.Prelude.{Option, MatchOption, Contains}
 use Rattle.flash_core.specs.declared.geometry.Geometry.{Geometry}
 use Rattle.flash_core.specs.State.{IsLawful as IsLawfulDevice}
 use Rattle.flash_core.proofs.GeometryLaws.{prog_positive}
 use Rattle.kv_model.specs.Kv.{IsLawful}
 use Rattle.kv_model.specs.PlainStep.{plain_rules}
 use Rattle.kv_model.specs.Rules.{cuts}
-use Rattle.kv_model.specs.StoreState.{Doubt, Maps, OpenSet, StoreState, maps_of}
+use Rattle.kv_model.specs.StoreState.{Doubt, OpenSet, StoreState, maps_of}
 use Rattle.record_core.specs.Mounts.{Mounts}
 use Rattle.record_core.proofs.MountLemmas.{mounts_once}
 use Rattle.tdb_mount.proofs.ReaderLemmas.{mapped_from}
 use Rattle.tdb_read.specs.Reads.{map_in}
-use Rattle.tdb_read.specs.States.{MapsStand, constants_of, kv_state, state_in}
+use Rattle.tdb_read.specs.States.{constants_of, kv_state, state_in}
 use Rattle.tdb_read.specs.Views.{IsLogOf, IsReady, LogPart, LogView, records_in}
 
 pub log_mounts : (g : Geometry) (image : List ℕ) (log : LogPart) → IsLogOf g image log → Mounts g image (map_in g log image)

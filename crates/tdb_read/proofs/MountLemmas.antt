@@ -1,6 +1,6 @@
 -- What was mounted is a log that is ready.
 use Rattle.std.proofs.Common.{◌≡◌, ◌≤◌, ◌%◌, ℕ, List, length, inl, inr, refl, sym, ◌∙◌, ap, subst}
-use Rattle.std.specs.Prelude.{Option, Some, None, Ok}
+use Rattle.std.specs.Prelude.{Option}
 use Rattle.std.specs.FinMap as map
 use Rattle.std.specs.Option.{ForSome}
 use Rattle.flash_core.specs.declared.geometry.Geometry.{Geometry}
@@ -11,26 +11,21 @@ use Rattle.base_core.specs.Units.{up}
 use Rattle.std.specs.Int.{is_power_of_two}
 use Rattle.std.proofs.lemmas.Bool.{cases_eq}
 use Rattle.record_core.proofs.Existence.{Known, known_as, known_both, known_le, known_true}
-use Rattle.flash_core.specs.State.{DeviceCall, FlashState, IsLawful}
+use Rattle.flash_core.specs.State.{DeviceCall, FlashState}
 use Rattle.flash_core.proofs.GeometryLaws.{prog_positive}
-use Rattle.kv_model.specs.FlaggedMap.{FlaggedMap}
 use Rattle.kv_model.specs.Write.{Write, map_of}
-use Rattle.kv_model.specs.StoreState.{Iterators}
 use Rattle.record_core.specs.Log.{AreAllRecords}
-use Rattle.record_core.specs.Mounts.{ActiveRecords, Contents, Holds, MasterAt, Mounts, active_area}
+use Rattle.record_core.specs.Mounts.{ActiveRecords, Holds}
 use Rattle.record_core.proofs.MountLemmas.{mounts_once}
 use Rattle.area_log.specs.Areas.{end_of, first_place}
 use Rattle.area_log.specs.Listing.{listed}
-use Rattle.ram_table.specs.Table.{TableState}
 use Rattle.tdb_mount.specs.declared.mount.Parts.{Parts}
 use Rattle.tdb_mount.specs.Format.{MountsAlike, MountsBy}
 use Rattle.record_core.specs.CutMoments.{Cuts}
 use Rattle.flash_core.proofs.KeptLaws.{told_before}
 use Rattle.tdb_mount.specs.Index.{IsTable, places_of}
 use Rattle.tdb_mount.specs.Mounted.{IsMountOf, IsSafe as AreSafe, MountsAs}
-use Rattle.tdb_mount.specs.Room.{area_of}
 use Rattle.tdb_read.specs.Mounting.{IsMounted}
-use Rattle.tdb_read.specs.Reads.{map_in}
 use Rattle.tdb_read.specs.Views.{IsLogOf, IsReady, IsSafe, LogPart, LogView, area_in, records_in}
 use Rattle.tdb_read.proofs.RecordLemmas.{records_are}
 

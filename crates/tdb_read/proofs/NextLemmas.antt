@@ -1,5 +1,5 @@
 -- The next key of an iterator, found by a walk over the table.
-use Rattle.std.proofs.Common.{◌≡◌, ◌⊎◌, ℕ, ◌+◌, ◌-◌, ◌<◌, ◌≤◌, Bool, true, false, List, [], ◌++◌, length, drop, inl, inr, ⊎_elim, nat_eq, refl, sym, ◌∙◌, ap, subst, arith}
+use Rattle.std.proofs.Common.{◌≡◌, ◌⊎◌, ℕ, ◌+◌, ◌-◌, ◌<◌, ◌≤◌, true, false, List, [], ◌++◌, length, drop, inl, inr, ⊎_elim, nat_eq, refl, sym, ◌∙◌, ap, subst, arith}
 use Rattle.std.specs.Prelude.{IsTrue, Option, Some, None, is_some}
 use Rattle.std.specs.Option.{ForSome, IfSome, option_map, unwrap_or}
 use Rattle.std.specs.FinMap as map
@@ -22,7 +22,6 @@ use Rattle.area_log.specs.Areas.{end_of}
 use Rattle.ram_table.specs.declared.table.Entry.{Entry}
 use Rattle.ram_table.specs.Find.{IsFirstAbove, IsIndexOf, key_at}
 use Rattle.ram_table.specs.Reader.{CanReadKey, KeyMap}
-use Rattle.ram_table.specs.Table.{entry_at}
 use Rattle.tdb_mount.specs.Keys.{keys_in, keys_of}
 use Rattle.tdb_mount.proofs.ReaderLemmas.{key_read, mapped_from, refusal_of_read}
 use Rattle.tdb_read.specs.Reads.{IsBehind, IsFirstOrNone, IsReadRefusal, LackBetween, map_in}

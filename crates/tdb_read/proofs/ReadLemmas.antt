@@ -1,6 +1,6 @@
 -- What a read leaves of a log, and what the parts of a reading call answer.
-use Rattle.std.proofs.Common.{◌≡◌, ◌≢◌, ◌⊎◌, ℕ, ◌+◌, ◌-◌, ◌<◌, ◌≤◌, ◌^◌, min, true, false, List, ◌++◌, length, take, drop, replicate, get_or, inl, inr, ⊎_elim, refl, sym, ◌∙◌, ap, subst, arith}
-use Rattle.std.specs.Prelude.{IsTrue, Option, Some, None, Result, Ok, Err}
+use Rattle.std.proofs.Common.{◌≡◌, ◌≢◌, ◌⊎◌, ℕ, ◌+◌, ◌-◌, ◌<◌, ◌≤◌, min, List, ◌++◌, length, take, drop, replicate, inl, inr, refl, sym, ◌∙◌, ap, subst, arith}
+use Rattle.std.specs.Prelude.{Option, Some, None, Result, Ok, Err}
 use Rattle.std.specs.Option.{option_map}
 use Rattle.std.proofs.lemmas.Grind.{common_steps}
 use Rattle.std.proofs.lemmas.List.{length-drop, length-take, take-append-le, take_all, take_min}
@@ -17,7 +17,7 @@ use Rattle.kv_model.specs.StoreState.{Iterators}
 use Rattle.kv_model.specs.Write.{Write}
 use Rattle.record_core.specs.declared.header.Header.{Header}
 use Rattle.record_core.specs.Log.{IsRecordAt, extent}
-use Rattle.record_core.specs.Lookup.{HeadBroken, HeadSeen, IsHead, IsReadFault, ReadsHeader, broken_answer}
+use Rattle.record_core.specs.Lookup.{IsHead, IsReadFault, ReadsHeader}
 use Rattle.record_core.proofs.LogLemmas.{one_record}
 use Rattle.record_core.proofs.LookupLemmas.{one_head}
 use Rattle.area_log.specs.Areas.{end_of}
@@ -27,7 +27,7 @@ use Rattle.ram_table.specs.Reader.{IsRefusal}
 use Rattle.tdb_mount.specs.Keys.{keys_in, keys_of}
 use Rattle.area_log.specs.declared.area.Area.{Area}
 use Rattle.tdb_read.proofs.TableLemmas.{holds_at}
-use Rattle.tdb_read.specs.Reads.{GivesHeader, GivesValue, IsReadRefusal, SaysOf, offset_in}
+use Rattle.tdb_read.specs.Reads.{GivesHeader, GivesValue, IsReadRefusal, offset_in}
 use Rattle.tdb_read.specs.Views.{HasOnlyRead, HasRead, IsLogOf, IsReady, IsSafe, LogPart, LogView, area_in}
 
 -- ---- what is kept

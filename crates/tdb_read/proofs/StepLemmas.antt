@@ -1,6 +1,6 @@
 -- Steps of a plain store that runs: the calls that read.
-use Rattle.std.proofs.Common.{◌≡◌, ◌⊎◌, ℕ, Bool, true, false, List, Option, Some, None, nat_lt, length, take, drop, inl, inr, refl, sym, ◌∙◌, ap, subst}
-use Rattle.std.specs.Prelude.{IsTrue, if◌then◌else◌, not}
+use Rattle.std.proofs.Common.{◌≡◌, ℕ, true, false, List, Some, None, nat_lt, length, take, drop}
+use Rattle.std.specs.Prelude.{IsTrue}
 use Rattle.std.specs.FinMap as map
 use Rattle.kv_model.specs.declared.error.KvError.{KvError}
 use Rattle.kv_model.specs.declared.error.KvError.TheVariants as error
@@ -10,11 +10,11 @@ use Rattle.kv_model.specs.Checks.{may_fail_reading}
 use Rattle.kv_model.specs.Constants.{Constants}
 use Rattle.kv_model.specs.FlaggedMap.{Stored}
 use Rattle.kv_model.specs.NextKey.{next_key}
-use Rattle.kv_model.specs.Operations.{CloseIterator, Info, Next, OpenIterator, Part}
+use Rattle.kv_model.specs.Operations.{CloseIterator, Info, Next, Part}
 use Rattle.kv_model.specs.PlainStep.{plain_checks, plain_step}
 use Rattle.kv_model.specs.Rules.{Outcome}
 use Rattle.kv_model.specs.StoreState.{StoreState}
-use Rattle.kv_iters.specs.Calls.{advanced, ended, position_of, start_refusal, started, use_refusal}
+use Rattle.kv_iters.specs.Calls.{advanced, ended, position_of}
 
 abbrev pub refusal : StoreState → KvError → Outcome
 refusal state error = record { state = state; reply = reply.Refused error }

@@ -1,13 +1,13 @@
 -- What the table of a log says of a key.
-use Rattle.std.proofs.Common.{◌≡◌, ℕ, ◌+◌, ◌-◌, ◌<◌, ◌≤◌, Bool, true, false, List, length, refl, sym, ◌∙◌, ap, subst, arith}
-use Rattle.std.specs.Prelude.{IsTrue, Option, Some, None, MatchBool}
+use Rattle.std.proofs.Common.{◌≡◌, ℕ, ◌<◌, ◌≤◌, Bool, true, false, List, length, refl, sym, ◌∙◌, subst, arith}
+use Rattle.std.specs.Prelude.{Option, Some, None, MatchBool}
 use Rattle.std.specs.FinMap as map
 use mathlib.Core.Bool.{false≢true}
 use Rattle.flash_core.specs.declared.geometry.Geometry.{Geometry}
 use Rattle.flash_core.proofs.GeometryLaws.{prog_positive}
 use Rattle.kv_model.specs.FlaggedMap.{Stored}
 use Rattle.kv_model.specs.Write.{Write}
-use Rattle.record_core.specs.Log.{AreAllRecords, IsRecordAt, extent}
+use Rattle.record_core.specs.Log.{AreAllRecords}
 use Rattle.record_core.specs.Mounts.{ActiveRecords}
 use Rattle.area_log.specs.declared.area.Area.{Area}
 use Rattle.area_log.specs.Areas.{end_of, first_place}
@@ -16,7 +16,6 @@ use Rattle.area_log.specs.Reading.{HoldsRecord}
 use Rattle.ram_table.specs.declared.table.Place.{Place}
 use Rattle.ram_table.specs.Find.{CanFind, IsIndexOf, IsPlaceOf, key_at}
 use Rattle.ram_table.specs.Reader.{KeyMap}
-use Rattle.ram_table.specs.Table.{entry_at}
 use Rattle.tdb_mount.specs.Index.{HasEntry, IsKept, IsLinked, IsTableOf, PlaceMap, places_of, record_of}
 use Rattle.tdb_mount.specs.Keys.{keys_in, keys_of}
 use Rattle.tdb_mount.proofs.ReaderLemmas.{mapped_from}

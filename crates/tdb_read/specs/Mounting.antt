@@ -1,5 +1,5 @@
 -- What mounting a log leaves.
-use Rattle.std.specs.Prelude.{◌≡◌, ℕ, List}
+use Rattle.std.specs.Prelude.{◌≡◌, ℕ}
 use Rattle.std.specs.FinMap as map
 use Rattle.std.specs.Option.{ForSome}
 use Rattle.flash_core.specs.Runs.{Done, RunsBy}

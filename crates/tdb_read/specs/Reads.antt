@@ -1,14 +1,14 @@
 -- What the parts of a reading call answer.
-use Rattle.std.specs.Prelude.{◌≡◌, ◌≢◌, ◌⊎◌, ℕ, ◌+◌, ◌-◌, ◌<◌, ◌≤◌, IsTrue, List, length, true, false, Bool, MatchBool, Option, Some, None, MatchOption, MatchResult, Result, nat_eq}
+use Rattle.std.specs.Prelude.{◌≡◌, ◌≢◌, ◌⊎◌, ℕ, ◌-◌, ◌<◌, ◌≤◌, IsTrue, List, length, true, false, MatchBool, Option, Some, None, MatchResult, Result, nat_eq}
 use Rattle.std.specs.FinMap.{get}
 use Rattle.std.specs.List.{starts_with}
-use Rattle.std.specs.Option.{ForSome, IfSome}
+use Rattle.std.specs.Option.{ForSome}
 use Rattle.base_core.specs.Counts.{Rose}
 use Rattle.flash_core.specs.declared.geometry.Geometry.{Geometry}
 use Rattle.flash_core.specs.State.{FlashState}
 use Rattle.kv_model.specs.declared.call.Got.{Got}
 use Rattle.kv_model.specs.declared.error.KvError.{KvError}
-use Rattle.kv_model.specs.declared.error.KvError.TheVariants.{Corrupt, InvalidSize, NoIterator, ReadFault}
+use Rattle.kv_model.specs.declared.error.KvError.TheVariants.{Corrupt, InvalidSize, ReadFault}
 use Rattle.kv_model.specs.FlaggedMap.{FlaggedMap, Stored}
 use Rattle.kv_model.specs.KeyOrder.{is_below}
 use Rattle.kv_model.specs.NextKey.{IsNext}

@@ -1,6 +1,6 @@
 -- What a mounted log is as a store: its state with the incremental set that is active beside it, its log, and what a
 -- power cut may leave.
-use Rattle.std.specs.Prelude.{◌≡◌, ℕ, List, [], ◌∷◌, Option, Some, None, MatchOption}
+use Rattle.std.specs.Prelude.{◌≡◌, ℕ, List, [], ◌∷◌, Option, Some, None}
 use Rattle.std.specs.Option.{ForSome, option_map}
 use Rattle.std.specs.FinMap as map
 use Rattle.flash_core.specs.declared.geometry.Geometry.{Geometry}

@@ -8,7 +8,7 @@ use Rattle.flash_core.specs.Sizes.{IsValid}
 use Rattle.flash_core.specs.State.{FlashState}
 use Rattle.kv_model.specs.StoreState.{Iterators}
 use Rattle.kv_model.specs.Write.{Write}
-use Rattle.record_core.specs.Mounts.{Contents, Holds, active_area}
+use Rattle.record_core.specs.Mounts.{Holds, active_area}
 use Rattle.area_log.specs.declared.area.Area.{Area}
 use Rattle.area_log.specs.Areas.{IsEnd, end_of, first_place}
 use Rattle.area_log.specs.Listing.{listed}

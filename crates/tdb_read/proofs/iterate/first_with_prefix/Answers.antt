@@ -1,5 +1,5 @@
-use Rattle.std.proofs.Common.{rules, ◌≡◌, ◌⊎◌, ℕ, ◌+◌, ◌-◌, ◌≤◌, List, [], sym, ◌∙◌, ap, subst, arith}
-use Rattle.std.specs.Prelude.{IsTrue, Option, Some, MatchResult, Result, Err}
+use Rattle.std.proofs.Common.{rules, ◌≡◌, ◌⊎◌, ℕ, ◌-◌, List, [], sym, ◌∙◌, subst, arith}
+use Rattle.std.specs.Prelude.{IsTrue, Option, MatchResult, Result}
 use Rattle.std.specs.Option.{ForSome, unwrap_or}
 use Rattle.std.specs.FinMap.{contains_key, get}
 use Rattle.std.proofs.lemmas.Result.{err_from_is_err_and}
@@ -9,7 +9,6 @@ use Rattle.flash_core.proofs.KeptLaws.{OnlyReads-trans}
 use Rattle.kv_model.specs.declared.error.KvError.{KvError}
 use Rattle.record_core.specs.Lookup.{HeadBroken, IsReadFault, KeyBroken, KeySeen}
 use Rattle.area_log.specs.Areas.{end_of}
-use Rattle.ram_table.specs.Find.{key_at}
 use Rattle.ram_table.specs.Table.{entry_at}
 use Rattle.tdb_mount.specs.Keys.{keys_in}
 use Rattle.tdb_read.specs.Reads.{IsFirstOrNone, IsReadRefusal}

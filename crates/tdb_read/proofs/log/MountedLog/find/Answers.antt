@@ -1,15 +1,14 @@
-use Rattle.std.proofs.Common.{List, ℕ, ◌≡◌, sym, subst}
-use Rattle.std.specs.Prelude.{Some, Result, Ok, Err, IfOk, IfErr, MatchResult, true}
+use Rattle.std.proofs.Common.{List, ℕ, sym, subst}
+use Rattle.std.specs.Prelude.{Result, Ok, Err, IfOk, IfErr}
 use Rattle.area_log.specs.declared.area.Area.{Area}
 use Rattle.ram_table.specs.Find.{CanFind, IsInside, IsPlaceOf}
 use Rattle.ram_table.specs.Reader.{IsRefusal}
 use Rattle.ram_table.specs.declared.table.Place.{Place}
 use Rattle.kv_model.specs.declared.error.KvError.{KvError}
 use Rattle.tdb_mount.specs.Keys.{keys_in, keys_of}
-use Rattle.tdb_read.specs.Reads.{Finds, IsFound}
+use Rattle.tdb_read.specs.Reads.{Finds}
 use Rattle.tdb_read.specs.Views.{IsReady, LogView, area_in, view_of}
 use Rattle.std.specs.Option.{ForSome}
-use Rattle.std.specs.Prelude.{length, ◌≤◌, ◌<◌}
 use Rattle.tdb_read.proofs.ReadLemmas.{from_reader}
 use Rattle.tdb_read.proofs.TableLemmas.{can_find, located}
 use Rattle.tdb_read.proofs.log.MountedLog.find.Goals as goal

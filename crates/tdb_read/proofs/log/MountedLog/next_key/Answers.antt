@@ -1,4 +1,4 @@
-use Rattle.std.proofs.Common.{◌≡◌, ◌⊎◌, ℕ, List, [], inl, inr, refl, sym, ◌∙◌, ap, subst}
+use Rattle.std.proofs.Common.{◌≡◌, ℕ, List, [], inr, sym, ◌∙◌, ap, subst}
 use Rattle.std.specs.Prelude.{if◌then◌else◌, is_some, not, IsTrue, Option, Some, None, Result, Ok, Err, MatchResult}
 use Rattle.std.specs.Option.{ForSome, option_copied, unwrap_or}
 use Rattle.std.specs.FinMap.{contains_key, get}

@@ -1,4 +1,4 @@
-use Rattle.std.proofs.Common.{ℕ, ◌+◌, ◌-◌, sym, subst}
+use Rattle.std.proofs.Common.{ℕ, ◌-◌, subst}
 use Rattle.area_log.specs.declared.area.Area.{Area}
 use Rattle.area_log.specs.Areas.{end_of}
 use Rattle.record_core.specs.Lookup.{ReadsHeader}

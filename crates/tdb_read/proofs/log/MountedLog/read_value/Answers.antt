@@ -1,4 +1,4 @@
-use Rattle.std.proofs.Common.{ℕ, ◌+◌, ◌-◌, ◌≡◌, List, length, drop, replicate, sym, ◌∙◌, ap, subst}
+use Rattle.std.proofs.Common.{ℕ, ◌-◌, ◌≡◌, List, length, drop, replicate, ◌∙◌, ap, subst}
 use Rattle.std.proofs.lemmas.List.{take_at}
 use Rattle.std.specs.Prelude.{Result, Ok, Err, OnErr, IfOk}
 use Rattle.area_log.specs.declared.area.Area.{Area}
