@@ -14,4 +14,6 @@ pub use collection::{collect, copy_without};
 pub use laws::{finished_copies_are_mounted, last_records_stand_for_the_map};
 
 #[cfg(test)]
+mod device_tests;
+#[cfg(test)]
 mod tests;

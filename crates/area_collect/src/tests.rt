@@ -2,6 +2,7 @@
 ghost use Rattle.std.specs.Prelude.{◌≡◌, ◌+◌, ◌≤◌, length, IfOk, OnOk};
 ghost use Rattle.flash_core.specs.RecordDevice.{IsMemoryOf};
 ghost use Rattle.flash_core.specs.Sizes.{IsValid};
+ghost use Rattle.area_log.specs.Areas.{IsRange};
 ghost use Rattle.area_collect.specs.Copies.{AreIn};
 
 use super::*;
@@ -12,27 +13,27 @@ use std::alloc::Global;
 use std::process::Abort;
 use std::test::Fail;
 
-const FIRST: Area = Area { base: 0, size: 256 };
+pub(crate) const FIRST: Area = Area { base: 0, size: 256 };
 
-const SECOND: Area = Area {
+pub(crate) const SECOND: Area = Area {
     base: 256,
     size: 256,
 };
 
 // The CRCs are the complements of what Python's zlib gives. A master record of version 8.
-const MASTER_HEADER: [u8; 24] = [
+pub(crate) const MASTER_HEADER: [u8; 24] = [
     0x4b, 0x56, 0x52, 0x31, 0x18, 0, 1, 0, 0, 0, 0, 0, 4, 0, 0, 0, 8, 0, 0, 0, 0x81, 0x2c, 0xb8,
     0x01,
 ];
 
 // Of key `a` and value `00ff`.
-const SET_HEADER: [u8; 24] = [
+pub(crate) const SET_HEADER: [u8; 24] = [
     0x4b, 0x56, 0x52, 0x31, 0x18, 0, 1, 0, 0, 0, 0, 0, 1, 0, 0, 0, 2, 0, 0, 0, 0x21, 0x78, 0x5e,
     0x84,
 ];
 
 // Of key `c` and a value of 127 bytes 7.
-const LONG_HEADER: [u8; 24] = [
+pub(crate) const LONG_HEADER: [u8; 24] = [
     0x4b, 0x56, 0x52, 0x31, 0x18, 0, 1, 0, 0, 0, 0, 0, 1, 0, 0, 0, 0x7f, 0, 0, 0, 0x20, 0x09, 0x59,
     0x9e,
 ];
@@ -57,39 +58,54 @@ fn device_of(alloc: Global, prog: u32, image: &[u8; 512]) -> Result<RecordFlash,
     Ok(RecordFlash::new(alloc, geometry_of(prog), image)?)
 }
 
-// Adds an entry whose header lies in the first area.
-fn push_entry(table: &mut RamTable, place: u32) -> Result<(), Fail>
-    requires place { place + 24 ≤ 256 }
-    requires entries { AreIn (record { base = 0; size = 256 }) table.old.entries }
-    ensures entries { OnOk result (AreIn (record { base = 0; size = 256 }) table.new.entries) }
+// Adds an entry whose header lies in the area.
+fn push_entry(table: &mut RamTable, area: Area, place: u32) -> Result<(), Fail>
+    requires place { IsRange area place 24 }
+    requires entries { AreIn area table.old.entries }
+    ensures entries { OnOk result (AreIn area table.new.entries) }
 {
     table.reserve_one()?;
     table.insert(table.len(), place, place);
     Ok(())
 }
 
-fn table_of(rt: &impl Abort, alloc: Global, places: &[u32]) -> Result<RamTable, Fail>
-    ensures { IfOk result (λ table. AreIn (record { base = 0; size = 256 }) table.entries) }
+// A table with these places for hashes, too.
+pub(crate) fn table_of(
+    rt: &impl Abort,
+    alloc: Global,
+    area: Area,
+    places: &[u32],
+) -> Result<RamTable, Fail>
+    ensures { IfOk result (λ table. AreIn area table.entries) }
 {
     let mut table = RamTable::new(alloc);
+    assert!(rt; area.base <= 65_536 && area.size <= 65_536);
     for place in places {
-        assert!(rt; *place <= 200);
-        push_entry(&mut table, *place)?;
+        assert!(rt; *place <= 65_536 && *place >= area.base);
+        assert!(rt; *place + 24 <= area.base + area.size);
+        push_entry(&mut table, area, *place)?;
     }
     Ok(table)
 }
 
 // Puts a header, and `ahead` bytes behind it a payload.
-fn put_record(image: &mut [u8; 512], at: usize, ahead: usize, header: &[u8; 24], payload: &[u8])
-    requires header { at + 24 ≤ 512 }
-    requires payload { at + ahead + length payload.now ≤ 512 }
+pub(crate) fn put_record(
+    image: &mut [u8],
+    at: usize,
+    ahead: usize,
+    header: &[u8; 24],
+    payload: &[u8],
+)
+    requires header { at + 24 ≤ length image.old }
+    requires payload { at + ahead + length payload.now ≤ length image.old }
+    ensures { length image.new ≡ length image.old }
 {
     image[at..at + 24].copy_from_slice(header);
     image[at + ahead..at + ahead + payload.len()].copy_from_slice(payload);
 }
 
 // The payload of key `c` and a value of 127 bytes 7.
-fn long_payload() -> [u8; 128] {
+pub(crate) fn long_payload() -> [u8; 128] {
     let mut payload = [7; 128];
     payload[0] = b'c';
     payload
@@ -106,7 +122,7 @@ fn collected(
 ) -> Result<(u32, Vec<u32>, Vec<u8>), Fail> {
     assert!(rt; geometry_of(prog).is_valid());
     assert!(rt; prog <= 64);
-    let table = table_of(rt, alloc, places)?;
+    let table = table_of(rt, alloc, FIRST, places)?;
     let mut spare = RamTable::new(alloc);
     spare.reserve(table.len())?;
     let mut flash = device_of(alloc, prog, image)?;
