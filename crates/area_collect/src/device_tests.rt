@@ -3,8 +3,9 @@ ghost use Rattle.std.specs.Prelude.{◌≡◌, length, IfOk};
 ghost use Rattle.flash_core.specs.RecordDevice.{IsLoggedOf};
 ghost use Rattle.flash_core.specs.Sizes.{IsValid, size_of};
 
-use super::tests::{FIRST, LONG_HEADER, MASTER_HEADER, SECOND, SET_HEADER};
-use super::tests::{long_payload, put_record, table_of};
+use super::tests::{
+    FIRST, LONG_HEADER, MASTER_HEADER, SECOND, SET_HEADER, long_payload, put_record, table_of,
+};
 use super::*;
 use flash_core::{Flash, Geometry, RecordFlash};
 use flash_sim::Chip;
@@ -17,7 +18,8 @@ use tdb_mount::{area_at, mount_parts};
 
 // A master record of version 7.
 const OLD_MASTER_HEADER: [u8; 24] = [
-    0x4b, 0x56, 0x52, 0x31, 0x18, 0, 0x01, 0, 0, 0, 0, 0, 0x04, 0, 0, 0, 0x08, 0, 0, 0, 0x2d, 0x3e, 0x98, 0xd8
+    0x4b, 0x56, 0x52, 0x31, 0x18, 0, 0x01, 0, 0, 0, 0, 0, 0x04, 0, 0, 0, 0x08, 0, 0, 0, 0x2d, 0x3e,
+    0x98, 0xd8,
 ];
 
 const OLD_MASTER: &[u8] = b"TDBS\x07\0\x01\0\0\0\0\0";
@@ -196,7 +198,7 @@ fn images_of(
 
 fn check_collection(rt: &impl Abort, alloc: Global, unit: &Unit, count: u32) -> Result<(), Fail> {
     let geometry = large(unit.prog);
-    assert!(rt; geometry.is_valid());
+    assert!(rt; geometry.is_valid() && unit.first <= 8192 && unit.record <= 8192);
     let (image, want) = images_of(rt, alloc, unit, count as usize)?;
     let places = places_of(rt, alloc, unit, 0, count)?;
     let copies = places_of(rt, alloc, unit, 32_768, count)?;
