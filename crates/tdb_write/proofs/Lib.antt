@@ -4,3 +4,4 @@ pub mod TailLemmas
 pub mod FeedLemmas
 pub mod AppendLemmas
 pub mod BeginLemmas
+pub mod ReserveLemmas

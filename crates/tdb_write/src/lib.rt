@@ -5,6 +5,8 @@
 //! the map before the call or to that after it, as far as chance goes.
 #![tactic(auto)]
 
+mod reserving;
 mod writing;
 
+pub use reserving::reserve;
 pub use writing::{begin, feed, seal};
