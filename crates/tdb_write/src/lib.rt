@@ -10,3 +10,6 @@ mod writing;
 
 pub use reserving::reserve;
 pub use writing::{begin, feed, seal};
+
+#[cfg(test)]
+mod tests;
