@@ -1,0 +1,7 @@
+pub mod JoinLemmas
+pub mod StayLemmas
+pub mod TailLemmas
+pub mod FeedLemmas
+pub mod AppendLemmas
+pub mod BeginLemmas
+pub mod ReserveLemmas
