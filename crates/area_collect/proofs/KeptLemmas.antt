@@ -151,7 +151,7 @@ module _ (g : Geometry) (valid : IsValid g) (image : List ℕ) (sized : length i
   end_is : end_behind g.prog (first_place g route.to) rs ≡ first_place g route.to + length (spellings g.prog rs)
   end_is = end_length g.prog positive (first_place g route.to) rs
 
-  copies_torn : Torn (first_place g route.to) (length (spellings g.prog rs)) (erased_from image route.to.base (area_size g)) (with_copies g route.to image rs)
+  pub copies_torn : Torn (first_place g route.to) (length (spellings g.prog rs)) (erased_from image route.to.base (area_size g)) (with_copies g route.to image rs)
   copies_torn = Torn-put (erased_from image route.to.base (area_size g)) (first_place g route.to) (spellings g.prog rs) (omega (arith, end_is, can.fit, inside, blank_long))
 
   copies_long : length (with_copies g route.to image rs) ≡ size_of g
@@ -174,7 +174,7 @@ module _ (g : Geometry) (valid : IsValid g) (image : List ℕ) (sized : length i
       (Torn-widen (first_place g route.to) (length (spellings g.prog rs)) route.to.base (area_size g) (omega arith) (omega (arith, end_is, can.fit, size_is)) copies_torn))
       (Torn-widen route.to.base (master_size g.prog) route.to.base (area_size g) (omega arith) (omega (arith, valid.master_fits)) master_torn)
 
-  own_master : IsMaster g.prog version (part (with_master g route.to version (with_copies g route.to image rs)) route.to.base (master_size g.prog))
+  pub own_master : IsMaster g.prog version (part (with_master g route.to version (with_copies g route.to image rs)) route.to.base (master_size g.prog))
   own_master = IsMaster-put g.prog positive (with_copies g route.to image rs) route.to.base version version_fits (omega (arith, copies_long, master_inside))
 
   copied_records : AreRecords g.prog (with_master g route.to version (with_copies g route.to image rs)) (first_place g route.to) (end_behind g.prog (first_place g route.to) rs) rs
@@ -182,7 +182,7 @@ module _ (g : Geometry) (valid : IsValid g) (image : List ℕ) (sized : length i
       master_torn (inr (omega arith))
       (spelled_stand g.prog positive image (end_of route.from) es rs can.stand (erased_from image route.to.base (area_size g)) (first_place g route.to) (omega (arith, end_is, can.fit, inside, blank_long)))
 
-  rest : IsErased (with_master g route.to version (with_copies g route.to image rs)) (end_behind g.prog (first_place g route.to) rs) (end_of route.to - end_behind g.prog (first_place g route.to) rs)
+  pub rest : IsErased (with_master g route.to version (with_copies g route.to image rs)) (end_behind g.prog (first_place g route.to) rs) (end_of route.to - end_behind g.prog (first_place g route.to) rs)
   rest =
       let end : ℕ = end_behind g.prog (first_place g route.to) rs in
       let n : ℕ = end_of route.to - end in
@@ -195,7 +195,7 @@ module _ (g : Geometry) (valid : IsValid g) (image : List ℕ) (sized : length i
   all_copied_records = all_before_erased g.prog positive (with_master g route.to version (with_copies g route.to image rs)) (first_place g route.to) (end_of route.to) (end_behind g.prog (first_place g route.to) rs) rs copied_records can.fit rest
 
   -- the other area's master record stays
-  other_master : (v : Option ℕ) → MasterAt g.prog image route.from.base v → MasterAt g.prog (with_master g route.to version (with_copies g route.to image rs)) route.from.base v
+  pub other_master : (v : Option ℕ) → MasterAt g.prog image route.from.base v → MasterAt g.prog (with_master g route.to version (with_copies g route.to image rs)) route.from.base v
   other_master v is = master_stays g valid image (with_master g route.to version (with_copies g route.to image rs)) sized route.to.base (area_size g) area_torn route.from.base v
       (omega (arith, valid.master_fits, area_fits g route.from is_route.from, is_route.from.size))
       (⊎_elim (λ before. inl (omega (arith, before, valid.master_fits, is_route.from.size))) (λ behind. inr (inl (omega (arith, behind, size_is)))) (areas_apart g route is_route)) is
@@ -220,10 +220,10 @@ module _ (g : Geometry) (valid : IsValid g) (image : List ℕ) (sized : length i
       )
 
   module _ (own : ℕ) (own_fits : own < 2 ^ 16) (next : version ≡ (own + 1) % 2 ^ 16) where
-    to_second : active_area (Some own) (Some version) ≡ Some 1
+    pub to_second : active_area (Some own) (Some version) ≡ Some 1
     to_second = ap (λ (b : Bool). Some (if b then 1 else 0)) (eq-eqb version ((own + 1) % 2 ^ 16) next)
 
-    to_first : active_area (Some version) (Some own) ≡ Some 0
+    pub to_first : active_area (Some version) (Some own) ≡ Some 0
     to_first = ap (λ (b : Bool). Some (if b then 1 else 0)) (ne_eqb own ((version + 1) % 2 ^ 16) (λ same. omega (arith, same, next, own_fits)))
 
     -- where the area that was copied from has this version, its records are active no more

@@ -123,6 +123,63 @@ pub fn collect<F: Flash>(
     Ok(end)
 }
 
+/// Erases the units of an area in ascending order, and takes all entries out of `spare`. The answer
+/// is the place of the area's first record. `WriteFault` alone is refused with, only where that
+/// count of the device rose, and nothing is read. With a master record behind it the map is empty.
+pub fn clear<F: Flash>(flash: &mut F, to: &Area, spare: &mut RamTable) -> Result<u32, KvError>
+    requires valid { IsValid (F.state flash.old).geometry }
+    requires area { IsAreaOf (F.state flash.old).geometry to.now }
+    ensures runs { RunsBy (F.state flash.old) (F.state flash.new)
+        (FillsArea (F.state flash.old).geometry (number_of to.now)) (kv_ended result) }
+    ensures fault { IfErr result (λ e. e ≡ WriteFault) }
+    ensures place { IfOk result (λ place. place ≡ first_place (F.state flash.old).geometry to.now) }
+    ensures erased { OnImage (F.state flash.old).image result (λ image. (F.state flash.new).image
+        ≡ Some (erased_from image to.now.base (area_size (F.state flash.old).geometry))) }
+    ensures entries { spare.new.entries ≡ [] }
+    ensures room { KeepsRoom spare.old spare.new }
+{
+    empty(spare);
+    erase_area(flash, to)
+}
+
+/// Does what `collect` does, but for the master record: so the area that is copied from stays the
+/// active one, until a master record is written.
+pub fn copy_all<F: Flash>(
+    flash: &mut F,
+    from: &Area,
+    to: &Area,
+    table: &RamTable,
+    spare: &mut RamTable,
+    work: &mut [u8],
+) -> Result<u32, KvError>
+    requires can { CanWork (F.state flash.old).geometry to.now work.old }
+    requires from { IsAreaOf (F.state flash.old).geometry from.now }
+    requires apart { from.now.base ≢ to.now.base }
+    requires entries { AreIn from.now table.now.entries }
+    requires room { length table.now.entries ≤ length spare.old.entries + spare.old.spare }
+
+    ensures runs { RunsBy (F.state flash.old) (F.state flash.new)
+        (FillsArea (F.state flash.old).geometry (number_of to.now)) (kv_ended result) }
+    ensures cause { IfErr result (λ e. IsFault e ⊎ IsNotCopied (F.state flash.old)
+        (copy_of from.now to.now table.now.entries)
+        (first_place (F.state flash.old).geometry to.now) e) }
+    // where the image is told and the records stand in it, nothing but a fault refuses
+    ensures told { ForSome (F.state flash.old).image (λ image. (records : List Write)
+        → CanCopy (F.state flash.old).geometry image
+        (copy_of from.now to.now table.now.entries) records → IfErr result IsFault) }
+    ensures copied { IfOk result (λ end. HasCopied (F.state flash.old) (F.state flash.new)
+        (copy_of from.now to.now table.now.entries)
+        (record { end = end; entries = spare.new.entries }) (λ image. image)) }
+    ensures room { KeepsRoom spare.old spare.new }
+{
+    let route = Route {
+        from: *from,
+        to: *to,
+    };
+    let start = clear(flash, to, spare)?;
+    copy_entries(flash, route, table, 0, table.len(), start, spare, work)
+}
+
 /// Does what `collect` does for all entries but the one at `left_out`, and writes no master record:
 /// so the area that is copied from stays the active one, until a master record is written.
 pub fn copy_without<F: Flash>(

@@ -10,7 +10,7 @@ mod entries;
 mod laws;
 mod payload;
 
-pub use collection::{collect, copy_without};
+pub use collection::{clear, collect, copy_all, copy_without};
 pub use laws::{finished_copies_are_mounted, last_records_stand_for_the_map};
 
 #[cfg(test)]

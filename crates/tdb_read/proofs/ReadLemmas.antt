@@ -159,7 +159,7 @@ module _ (old new : LogView) (ready : IsReady old) (at : ℕ) (inside : at < len
   pub header_given : (result : Result Header KvError) → ReadsHeader s new.device place (end - place) result → GivesHeader old new place result
   header_given (Ok header) seen = λ image told r stands.
       let same : header ≡ head_of r = one_head s.geometry.prog (end - place) seen.bytes header (head_of r) seen.head (head_here image told r stands seen.bytes (seen.seen.told image told)) in
-      record { flags = ap (λ (h : Header). h.flags) same; size = ap (λ (h : Header). h.value_size) same }
+      record { flags = ap (λ (h : Header). h.flags) same; key_size = ap (λ (h : Header). h.key_size) same; size = ap (λ (h : Header). h.value_size) same }
   header_given (Err e) (inl fault) = fault_is s new.device e fault
   header_given (Err e) (inr broken) = corrupt_is s new.device e _ _ broken.is (λ same. omega (arith, same))
       (none_if s.image (λ image told. let r = some_record image told in

@@ -83,9 +83,10 @@ pub record IsChecked (v : LogView) (offset : ℕ) (buf : List ℕ) (got : Got) :
   pub inside : IsRange (area_in v.device.geometry v.log) place 24
   pub gives : GivesRead v.device place (end_of (area_in v.device.geometry v.log) - place) offset buf got
 
--- a header says the flags and the size of this record
+-- a header says the flags and the sizes of this record
 pub record SaysOf (header : Header) (r : Write) : Type 0 where
   pub flags : header.flags ≡ r.flags
+  pub key_size : header.key_size ≡ length r.key
   pub size : header.value_size ≡ length r.value
 
 -- what a read of the header at this place answers
