@@ -1,6 +1,7 @@
-// A state that contracts alone see.
-ghost use Rattle.std.specs.Prelude.{◌≡◌};
+// What contracts alone see.
+ghost use Rattle.std.specs.Prelude.{◌≡◌, ℕ, List};
 ghost use Rattle.std.specs.Borrow.{ftrue};
+ghost use Rattle.std.specs.Coded.{coded_list, coded_ℕ};
 ghost use Rattle.kv_model.specs.Opening.{state_code};
 ghost use Rattle.kv_model.specs.StoreState.{StoreState};
 
@@ -27,5 +28,29 @@ impl Noted {
         ensures { result.state ≡ N.state _of.now }
     {
         Noted {}
+    }
+}
+
+/// How bytes are read off a value.
+pub trait NotesBytes<X> {
+    ghost bytes: { X → List ℕ };
+}
+
+/// Bytes that contracts alone see.
+#[derive(Drop)]
+pub struct NotedBytes {
+    pub ghost bytes: { List ℕ } by { coded_list coded_ℕ },
+}
+
+impl Model for NotedBytes {
+    ghost also_owns = { λ _. ftrue };
+}
+
+impl NotedBytes {
+    /// A note of the bytes that are read off a value.
+    pub fn of<X, N: NotesBytes<X>>(_of: &X) -> NotedBytes
+        ensures { result.bytes ≡ N.bytes _of.now }
+    {
+        NotedBytes {}
     }
 }
