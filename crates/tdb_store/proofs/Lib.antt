@@ -1,0 +1,4 @@
+pub mod BegunLemmas
+pub mod CallLemmas
+pub mod StoreLemmas
+pub mod WriteLemmas

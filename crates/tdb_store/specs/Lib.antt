@@ -1,0 +1,4 @@
+pub mod Sets
+pub mod Begun
+pub mod Steps
+pub mod Stores
