@@ -2,3 +2,5 @@ pub mod BegunLemmas
 pub mod CallLemmas
 pub mod StoreLemmas
 pub mod WriteLemmas
+pub mod AddLemmas
+pub mod FeedLemmas

@@ -29,10 +29,10 @@ abbrev pub view_at : LogView → Option ActiveSet → Option StoreState → Stor
 view_at log active note = record { log = log; active = active; note = note }
 
 pub running_of : (v : LogView) (active : Option ActiveSet) (note : Option StoreState) → note ≡ None → IsStore (view_at v active note) → IsRunning v active
-running_of v active note runs is = subst (λ (n : Option StoreState). MatchOption n (IsRunning v active) (IsStopped v)) runs is
+running_of v active noted runs is = subst (λ (n : Option StoreState). MatchOption n (IsRunning v active) (IsStopped v)) runs is
 
 pub is_running : (v : LogView) (active : Option ActiveSet) (note : Option StoreState) → note ≡ None → IsRunning v active → IsStore (view_at v active note)
-is_running v active note runs is = subst (λ (n : Option StoreState). MatchOption n (IsRunning v active) (IsStopped v)) (sym runs) is
+is_running v active noted runs is = subst (λ (n : Option StoreState). MatchOption n (IsRunning v active) (IsStopped v)) (sym runs) is
 
 -- both of what was mapped over one option
 over_one : {X Y : Type 0} (f h : X → Y) (o : Option X) (R : Y → Y → Type 0) → ((x : X) → o ≡ Some x → R (f x) (h x))
@@ -77,7 +77,7 @@ module _ (old new : LogView) (active : Option ActiveSet) (note : Option StoreSta
 
 -- ---- a set that is aborted
 
-owner_is : (owner : ℕ) (begun : Begun) → (opened_by owner begun).owner ≡ owner
+pub owner_is : (owner : ℕ) (begun : Begun) → (opened_by owner begun).owner ≡ owner
 owner_is owner (Set set place fed) = refl
 owner_is owner (Remove key place copied) = refl
 

@@ -2,6 +2,7 @@
 #![tactic(auto)]
 
 mod active;
+mod feeding;
 mod notes;
 mod plain;
 
