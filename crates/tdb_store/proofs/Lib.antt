@@ -4,3 +4,4 @@ pub mod StoreLemmas
 pub mod WriteLemmas
 pub mod AddLemmas
 pub mod FeedLemmas
+pub mod MountedLemmas
