@@ -13,9 +13,10 @@ use Rattle.area_log.specs.Areas.{end_of}
 use Rattle.inc_set.specs.declared.open_set.OpenSet.{OpenSet as Writer}
 use Rattle.inc_set.specs.Sets.{Holds, opened}
 use Rattle.tdb_read.specs.Views.{IsLogOf, IsReady, IsSafe, LogPart, LogView, area_in}
+use Rattle.tdb_write.specs.Changes.{KeepsPlaces}
 use Rattle.tdb_write.specs.Writing.{FitsBehind, IsWriting}
 use Rattle.tdb_write.proofs.FeedLemmas.{number_of_two, view}
-use Rattle.tdb_write.proofs.StayLemmas.{with_tail}
+use Rattle.tdb_write.proofs.StayLemmas.{located_still, with_tail}
 
 module _ (device : FlashState) (log : LogPart) (ready : IsReady (view device log)) (unit : List ℕ) (unit_is : length unit ≡ length log.unit) where
   abbrev later : LogPart
@@ -36,6 +37,14 @@ module _ (device : FlashState) (log : LogPart) (ready : IsReady (view device log
     };
     stands = λ image told. let is = ready.stands image told in
         record { first = is.first; second = is.second; active = is.active; version = is.version; holds = is.holds; table = is.table; clean = is.clean };
+  }
+
+  pub unit_places : KeepsPlaces (view device log) (view device (with_tail log log.is_clean unit))
+  unit_places key place found = record {
+    inside = found.inside;
+    there = found.there;
+    located = λ image told. let is = ready.stands image told in
+        located_still device.geometry ready.safe.valid image log is image is.holds log.is_clean unit ready.safe unit_ready.safe (unit_ready.stands image told) key place found.inside found.there (found.located image told);
   }
 
   module _ (clean : IsTrue log.is_clean) (key : List ℕ) (flags size : ℕ) (room : FitsBehind (view device log) (record_size device.geometry.prog (length key) size)) (set : Writer) (set_is : set ≡ opened key flags size log.end)

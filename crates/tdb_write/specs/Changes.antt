@@ -90,6 +90,13 @@ pub record IsReserved (log : LogPart) : Type 0 where
   pub table : 1 ≤ log.table.spare
   pub spare : length log.table.entries + 1 ≤ length log.spare.entries + log.spare.spare
 
+-- nothing but how many more entries the tables can take has changed in memory
+abbrev pub SameButRoom : LogPart → LogPart → Type 0
+SameButRoom old new = new ≡ record old {
+  table = record { entries = old.table.entries; spare = new.table.spare };
+  spare = record { entries = old.spare.entries; spare = new.spare.spare };
+}
+
 -- Each key stands in the table where it stood.
 abbrev pub KeepsPlaces : LogView → LogView → Type 0
 KeepsPlaces old new = (key : List ℕ) (place : Place) → IsFound old key place → IsFound new key place

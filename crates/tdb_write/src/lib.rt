@@ -5,6 +5,10 @@
 //! the map before the call or to that after it, as far as chance goes.
 #![tactic(auto)]
 
+mod collect;
+mod reserving;
 mod writing;
 
+pub use collect::{complete, copy_without, reset};
+pub use reserving::reserve;
 pub use writing::{begin, feed, seal};

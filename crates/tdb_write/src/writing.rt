@@ -39,6 +39,7 @@ pub fn begin<F: Flash>(log: &mut MountedLog<F>, key: &Key, flags: u32, size: u32
     ensures writing { IsWriting (view_of F.state log.new) result [] }
     ensures flash { log.new.flash ≡ log.old.flash }
     ensures memory { SameButUnit (view_of F.state log.old).log (view_of F.state log.new).log }
+    ensures places { KeepsPlaces (view_of F.state log.old) (view_of F.state log.new) }
 {
     OpenSet::begin(key, flags, size, log.end, &mut log.unit)
 }
