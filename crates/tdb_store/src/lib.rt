@@ -1,0 +1,11 @@
+//! The plain store over a flash device.
+#![tactic(auto)]
+
+mod active;
+mod feeding;
+mod mounting;
+mod notes;
+mod plain;
+
+pub(crate) use active::{ActiveSet, Begun};
+pub(crate) use plain::PlainStore;
