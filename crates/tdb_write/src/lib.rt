@@ -7,8 +7,10 @@
 
 mod collect;
 mod reserving;
+mod room;
 mod writing;
 
 pub use collect::{complete, copy_without, reset};
 pub use reserving::reserve;
+pub use room::make_room;
 pub use writing::{begin, feed, seal};
