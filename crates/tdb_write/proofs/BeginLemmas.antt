@@ -1,5 +1,5 @@
 -- A set is begun at the end of a log.
-use Rattle.std.proofs.Common.{◌≡◌, ℕ, ◌+◌, ◌-◌, ◌≤◌, true, List, [], length, refl, sym, ◌∙◌, ap, subst, arith}
+use Rattle.std.proofs.Common.{◌≡◌, ℕ, ◌+◌, ◌-◌, ◌<◌, ◌≤◌, true, List, [], length, refl, sym, ◌∙◌, ap, subst, arith}
 use Rattle.std.specs.Prelude.{IsTrue, Option, Some}
 use Rattle.std.specs.Option.{ForSome}
 use Rattle.base_core.specs.Sizes.{record_size}
@@ -12,11 +12,22 @@ use Rattle.record_core.specs.Cuts.{IsInArea}
 use Rattle.area_log.specs.Areas.{end_of}
 use Rattle.inc_set.specs.declared.open_set.OpenSet.{OpenSet as Writer}
 use Rattle.inc_set.specs.Sets.{Holds, opened}
-use Rattle.tdb_read.specs.Views.{IsLogOf, IsReady, IsSafe, LogPart, LogView, area_in}
+use Rattle.ram_table.specs.declared.table.Place.{Place}
+use Rattle.tdb_read.specs.Reads.{IsFound, IsLocated}
+use Rattle.tdb_read.specs.Views.{HasOnlyRead, IsLogOf, IsReady, IsSafe, LogPart, LogView, area_in}
 use Rattle.tdb_write.specs.Changes.{KeepsPlaces}
 use Rattle.tdb_write.specs.Writing.{FitsBehind, IsWriting}
 use Rattle.tdb_write.proofs.FeedLemmas.{number_of_two, view}
 use Rattle.tdb_write.proofs.StayLemmas.{located_still, with_tail}
+
+-- a place that was found stands over reads
+pub found_since : (old new : LogView) (key : List ℕ) (place : Place) → HasOnlyRead old new → IsFound old key place → IsFound new key place
+found_since old new key place reads found = record {
+  inside = subst (λ (l : LogPart). place.at ≤ length l.table.entries) (sym reads.log) found.inside;
+  there = λ is. subst (λ (l : LogPart). place.at < length l.table.entries) (sym reads.log) (found.there is);
+  located = λ image told. subst (λ (h : Geometry). IsLocated h image new.log key place) (sym reads.device.geometry)
+      (subst (λ (l : LogPart). IsLocated old.device.geometry image l key place) (sym reads.log) (found.located image (sym reads.device.image ∙ told)));
+}
 
 module _ (device : FlashState) (log : LogPart) (ready : IsReady (view device log)) (unit : List ℕ) (unit_is : length unit ≡ length log.unit) where
   abbrev later : LogPart

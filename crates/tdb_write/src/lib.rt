@@ -14,3 +14,6 @@ pub use collect::{complete, copy_without, reset};
 pub use reserving::reserve;
 pub use room::make_room;
 pub use writing::{begin, feed, seal};
+
+#[cfg(test)]
+mod tests;
