@@ -5,3 +5,14 @@ pub mod FeedLemmas
 pub mod AppendLemmas
 pub mod BeginLemmas
 pub mod ReserveLemmas
+pub mod LiveLemmas
+pub mod MovedLemmas
+pub mod EntryLemmas
+pub mod FillLemmas
+pub mod CopiedLemmas
+pub mod PreparedLemmas
+pub mod RefusalLemmas
+pub mod CompleteLemmas
+pub mod AllCopiedLemmas
+pub mod CollectedLemmas
+pub mod WithoutLemmas

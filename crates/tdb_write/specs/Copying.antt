@@ -1,5 +1,5 @@
 -- A copy of a log in the other area, to which only its master record is missing.
-use Rattle.std.specs.Prelude.{◌≡◌, ℕ, ◌+◌, ◌-◌, ◌%◌, ◌^◌, List, [], true}
+use Rattle.std.specs.Prelude.{◌≡◌, ℕ, ◌+◌, ◌-◌, ◌<◌, ◌≤◌, ◌%◌, ◌^◌, List, [], length, true}
 use Rattle.std.specs.FinMap as map
 use Rattle.std.specs.Option.{ForSome}
 use Rattle.flash_core.specs.declared.geometry.Geometry.{Geometry}
@@ -12,7 +12,9 @@ use Rattle.kv_model.specs.Write.{map_of}
 use Rattle.area_collect.specs.Collection.{with_master}
 use Rattle.record_core.specs.Cuts.{base_of}
 use Rattle.tdb_mount.specs.Room.{area_of}
-use Rattle.tdb_read.specs.Reads.{map_in}
+use Rattle.ram_table.specs.declared.table.Place.{Place}
+use Rattle.tdb_read.specs.Reads.{IsFound, IsLocated, map_in}
+use Rattle.tdb_write.specs.Changes.{IsReserved}
 use Rattle.tdb_read.specs.Views.{IsLogOf, IsSafe, LogPart, LogView, records_in}
 
 -- the log once the other area, in which copies end here, is the active one
@@ -46,6 +48,10 @@ pub record IsPreparedFor (v : LogView) (end : ℕ) (after : FlaggedMap → Flagg
 abbrev pub without : List ℕ → FlaggedMap → FlaggedMap
 without key m = map.remove m key
 
+-- no key
+abbrev pub emptied : FlaggedMap → FlaggedMap
+emptied m = map.empty
+
 -- The other area has copies of all live records but the key's, which end here.
 abbrev pub IsPrepared : LogView → ℕ → List ℕ → Type 0
 IsPrepared v end key = IsPreparedFor v end (without key)
@@ -58,3 +64,26 @@ pub record CanComplete (v : LogView) (end : ℕ) : Type 0 where
 -- the other area, of the next version, with the live records of what `after` makes of the map
 abbrev pub IsRenewed : ℕ → (FlaggedMap → FlaggedMap) → Log → Log → Type 0
 IsRenewed hash_bits after old new = IsCollected hash_bits (after (map_of old.records)) [] old new
+
+-- nothing but the table of copies has changed in memory
+abbrev pub SameButSpare : LogPart → LogPart → Type 0
+SameButSpare old new = new ≡ record old { spare = new.spare }
+
+-- Where a key will stand in the table once the copies that end here are the log.
+pub record IsFoundCopied (v : LogView) (end : ℕ) (key : List ℕ) (place : Place) : Type 0 where
+  pub inside : place.at ≤ length v.log.spare.entries
+  pub there : place.found ≡ true → place.at < length v.log.spare.entries
+  pub located : ForSome v.device.image (λ image.
+      IsLocated v.device.geometry (completed_image v.device.geometry v.log image) (completed v.log end) key place)
+
+-- The log was collected: its tail is clean, and its tables have as many entries and no less room.
+pub record HasTurned (old new : LogPart) : Type 0 where
+  pub clean : new.is_clean ≡ true
+  pub count : length new.table.entries ≡ length old.table.entries
+  pub reserved : IsReserved old → IsReserved new
+
+-- A key was found at this entry of the table.
+pub record IsFoundAt (v : LogView) (key : List ℕ) (place : Place) (at : ℕ) : Type 0 where
+  pub found : IsFound v key place
+  pub there : place.found ≡ true
+  pub at_is : place.at ≡ at

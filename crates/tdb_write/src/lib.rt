@@ -5,10 +5,14 @@
 //! the map before the call or to that after it, as far as chance goes.
 #![tactic(auto)]
 
+mod collect;
 mod reserving;
+mod room;
 mod writing;
 
+pub use collect::{complete, copy_without, reset};
 pub use reserving::reserve;
+pub use room::make_room;
 pub use writing::{begin, feed, seal};
 
 #[cfg(test)]
