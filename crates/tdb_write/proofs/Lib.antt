@@ -16,3 +16,4 @@ pub mod CompleteLemmas
 pub mod AllCopiedLemmas
 pub mod CollectedLemmas
 pub mod WithoutLemmas
+pub mod SpaceLemmas

@@ -78,12 +78,12 @@ abbrev pub HasSpaceFor : LogView → ℕ → Type 0
 HasSpaceFor v size = ForSome v.device.image (λ image.
     used v.device.geometry.prog (map_in v.device.geometry v.log image) + size ≤ room_of v.device.geometry.prog (area_size v.device.geometry))
 
--- They don't: with what they would take, and what an area has.
-abbrev pub IsFull : LogView → ℕ → KvError → Type 0
-IsFull v size e = ForSome v.device.image (λ image.
-    let need : ℕ = used v.device.geometry.prog (map_in v.device.geometry v.log image) + size in
-    let room : ℕ = room_of v.device.geometry.prog (area_size v.device.geometry) in
-    (room < need) × (e ≡ MediaFull need room))
+-- They don't: the refusal has what they would take, and what an area has, which is less on any device.
+pub record IsFull (v : LogView) (size : ℕ) (e : KvError) : Type 0 where
+  pub need : ℕ
+  pub is : e ≡ MediaFull need (room_of v.device.geometry.prog (area_size v.device.geometry))
+  pub over : room_of v.device.geometry.prog (area_size v.device.geometry) < need
+  pub told : ForSome v.device.image (λ image. need ≡ used v.device.geometry.prog (map_in v.device.geometry v.log image) + size)
 
 -- Both tables have room for one entry more.
 pub record IsReserved (log : LogPart) : Type 0 where

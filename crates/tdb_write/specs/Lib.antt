@@ -1,3 +1,4 @@
 pub mod Changes
 pub mod Writing
 pub mod Copying
+pub mod Space

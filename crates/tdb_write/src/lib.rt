@@ -8,11 +8,13 @@
 mod collect;
 mod reserving;
 mod room;
+mod space;
 mod writing;
 
 pub use collect::{complete, copy_without, reset};
 pub use reserving::reserve;
 pub use room::make_room;
+pub use space::check_room;
 pub use writing::{begin, feed, seal};
 
 #[cfg(test)]

@@ -5,7 +5,7 @@ ghost use Rattle.ram_table.specs.declared.table.Place.{Place};
 ghost use Rattle.record_core.specs.Endings.{kv_ended};
 ghost use Rattle.tdb_read.specs.Reads.{IsReadRefusal};
 ghost use Rattle.tdb_read.specs.Views.{OnlyRead, Ready, area_in, view_of};
-ghost use Rattle.tdb_write.specs.Changes.{Changes, HasSpaceFor, IsCopyRefusal, IsFull, IsReserved, KeepsPlaces, MakesRoom, unchanged};
+ghost use Rattle.tdb_write.specs.Changes.{Changes, HasSpaceFor, IsCopyRefusal, IsReserved, KeepsPlaces, MakesRoom, unchanged};
 ghost use Rattle.tdb_write.specs.Copying.{IsRenewed, HasTurned};
 ghost use Rattle.tdb_write.specs.Writing.{FitsBehind};
 
@@ -15,7 +15,7 @@ use kv_model::KvError;
 use tdb_read::MountedLog;
 
 // Whether a record of this size fits between the log's end and the area's.
-fn fits_behind<F: Flash>(log: &MountedLog<F>, size: u32) -> bool
+pub(crate) fn fits_behind<F: Flash>(log: &MountedLog<F>, size: u32) -> bool
     requires ready { Ready F.state log.now }
     ensures { result ≡ nat_le (log.now.end + size)
         (end_of (area_in (F.state log.now.flash).geometry (view_of F.state log.now).log)) }
