@@ -6,7 +6,6 @@ use Rattle.std.proofs.lemmas.Bool.Decides.{nat_tests}
 use mathlib.Core.Bool.{false≢true}
 use Rattle.flash_core.specs.declared.geometry.Geometry.{Geometry}
 use Rattle.flash_core.specs.Runs.{Done, Ending, WriteFailed}
-use Rattle.flash_core.proofs.KeptLaws.{OnlyReads-refl}
 use Rattle.kv_model.specs.declared.call.Reply.TheVariants as reply
 use Rattle.kv_model.specs.declared.call.Reply.{Reply}
 use Rattle.kv_model.specs.declared.error.KvError.{KvError}
@@ -20,7 +19,7 @@ use Rattle.kv_model.specs.Operations.{Add}
 use Rattle.kv_model.specs.PlainStep.{plain_checks, plain_rules, plain_step}
 use Rattle.kv_model.specs.StoreState.{OpenSet, StoreState}
 use Rattle.tdb_read.specs.States.{constants_of, kv_state, log_in, state_in}
-use Rattle.tdb_read.specs.Views.{HasOnlyRead, IsReady, LogView}
+use Rattle.tdb_read.specs.Views.{IsReady, LogView}
 use Rattle.tdb_write.specs.Changes.{Changes, unchanged}
 use Rattle.tdb_write.specs.Writing.{is_unprogrammed}
 use Rattle.tdb_store.specs.Begun.{IsBegun, IsBegunBy}
@@ -31,7 +30,7 @@ use Rattle.tdb_store.specs.declared.active.ActiveSet.{ActiveSet}
 use Rattle.tdb_store.specs.declared.active.Begun.{Begun}
 use Rattle.tdb_store.specs.declared.active.Begun.TheVariants.{Remove, Set}
 use Rattle.tdb_store.proofs.StoreLemmas.{owner_is, running_of, view_at}
-use Rattle.tdb_store.proofs.WriteLemmas.{done, failed, stopped}
+use Rattle.tdb_store.proofs.WriteLemmas.{done, failed, only_refl, stopped}
 
 -- ---- steps
 
@@ -83,23 +82,26 @@ module _ (v : LogView) (value : List ℕ) where
       → (state : StoreState) → state.open_set ≡ Some (opened_by owner begun) → (image : List ℕ) (l : Log) → AddsTo v begun (length value) (log_in g v.log image) l
       → LogSteps (constants_of g v.log) state (log_in g v.log image) l (Add value)
   add_follows owner (Set set place fed) is fits state open_is image l adds =
-      subst (λ (o : Option OpenSet). IfSome o (λ (s : OpenSet). l ≡ record (log_in g v.log image) { is_clean = v.log.is_clean
-      && (nat_le (length s.bytes + length value) 0 || nat_lt (length s.key + (length s.bytes + length value)) g.prog) })) (sym open_is)
+      subst (λ (o : Option OpenSet). IfSome o (λ (s : OpenSet). l ≡ record (log_in g v.log image) {
+        is_clean = v.log.is_clean
+            && (nat_le (length s.bytes + length value) 0 || nat_lt (length s.key + (length s.bytes + length value)) g.prog);
+      })) (sym open_is)
       (adds ∙ λ i. record (log_in g v.log image) { is_clean = (tail ∙ (λ j. v.log.is_clean && is_unprogrammed g.prog (length set.key) (is.writing.holds.has.count j + length value))) i })
     where
       tail : is_unprogrammed g.prog (length set.key) (set.fed + length value) ≡ (v.log.is_clean && is_unprogrammed g.prog (length set.key) (set.fed + length value))
       tail = stays_dirty g.prog (length set.key) set.fed (length value) v.log.is_clean (sym is.writing.at_end.clean)
   add_follows owner (Remove key place copied) is fits state open_is image l adds =
-      subst (λ (o : Option OpenSet). IfSome o (λ (s : OpenSet). l ≡ record (log_in g v.log image) { is_clean = v.log.is_clean
-      && (nat_le (length s.bytes + length value) 0 || nat_lt (length s.key + (length s.bytes + length value)) g.prog) })) (sym open_is)
-      (subst (λ (xs : List ℕ). l ≡ record (log_in g v.log image) { is_clean = v.log.is_clean
-      && (nat_le (0 + length xs) 0 || nat_lt (length key + (0 + length xs)) g.prog) }) (sym (none_fed value (omega (arith, fits))))
+      subst (λ (o : Option OpenSet). IfSome o (λ (s : OpenSet). l ≡ record (log_in g v.log image) {
+        is_clean = v.log.is_clean
+            && (nat_le (length s.bytes + length value) 0 || nat_lt (length s.key + (length s.bytes + length value)) g.prog);
+      })) (sym open_is)
+      (subst (λ (xs : List ℕ). l ≡ record (log_in g v.log image) {
+        is_clean = v.log.is_clean
+            && (nat_le (0 + length xs) 0 || nat_lt (length key + (0 + length xs)) g.prog);
+      }) (sym (none_fed value (omega (arith, fits))))
       (adds ∙ λ i. record (log_in g v.log image) { is_clean = and_true v.log.is_clean i }))
 
 -- ---- an add
-
-only_refl : (v : LogView) → HasOnlyRead v v
-only_refl v = record { device = OnlyReads-refl v.device; log = refl }
 
 module _ (v : LogView) (ready : IsReady v) (active : ActiveSet) (who : ℕ) (mine : (active.owner == who) ≡ true) (value : List ℕ) where
   abbrev set : OpenSet

@@ -5,3 +5,4 @@ pub mod WriteLemmas
 pub mod AddLemmas
 pub mod FeedLemmas
 pub mod MountedLemmas
+pub mod ResetLemmas

@@ -9,7 +9,7 @@ use Rattle.flash_core.specs.Moments.{Adds, FailedInside}
 use Rattle.flash_core.specs.Runs.{Done, Ending, IfFailed, IsCause as IsCauseOf, ReadFailed, Refused, UnlessShort, WriteFailed}
 use Rattle.flash_core.specs.State.{DeviceCall, FlashState, after_of, before_of}
 use Rattle.flash_core.proofs.GeometryLaws.{prog_positive}
-use Rattle.flash_core.proofs.KeptLaws.{told_after, told_before}
+use Rattle.flash_core.proofs.KeptLaws.{OnlyReads-refl, told_after, told_before}
 use Rattle.kv_model.specs.declared.call.Reply.TheVariants as reply
 use Rattle.kv_model.specs.declared.error.KvError.{KvError}
 use Rattle.kv_model.specs.declared.error.KvError.TheVariants.{Corrupt, ReadFault, WriteFault}
@@ -42,6 +42,10 @@ is_some_map f (Some x) = refl
 never_true : (b : Bool) → (IsTrue b → ⊥) → b ≡ false
 never_true true not = absurd (not refl)
 never_true false not = refl
+
+-- no reads before the writes
+pub only_refl : (v : LogView) → HasOnlyRead v v
+only_refl v = record { device = OnlyReads-refl v.device; log = refl }
 
 -- of a moment without a torn record by chance the promise holds
 one_of : (g : Geometry) (u v : FlaggedMap) (call : Option DeviceCall) (c : List ℕ) → CutStrictly g (MountsToOne g u v) call c → IsUnlikely g call c → MountsToOne g u v c
@@ -109,9 +113,10 @@ module _ (old mid new : LogView) (ready : IsReady old) (read : HasOnlyRead old m
       let unlikely : IsUnlikely g left.call left.image = subst (λ (x : Geometry). IsUnlikely x left.call left.image) geometry left.unlikely in
       let mounts : Mounts g left.image m = subst (λ (x : Geometry). Mounts x left.image m) geometry left.mounts in
       elim ((changes.runs.adds image (read.device.image ∙ told)).anew t left.call left.image (omega (arith, le, read.device.moment)) left.left) [
-        inl earlier ↦ inl (record { call = left.call; image = left.image; left = (read.device.told t left.call left.image).0 earlier; unlikely = unlikely; mounts = mounts })
-      | inr is ↦ inr (which_map g left.image (prog_positive g ready.safe.valid) (map_at image) (after (map_at image)) m
-          (one_of g (map_at image) (after (map_at image)) left.call left.image (leaves image left.call left.image is) unlikely) mounts) ]
+        | inl earlier ↦ inl (record { call = left.call; image = left.image; left = (read.device.told t left.call left.image).0 earlier; unlikely = unlikely; mounts = mounts })
+        | inr is ↦ inr (which_map g left.image (prog_positive g ready.safe.valid) (map_at image) (after (map_at image)) m
+            (one_of g (map_at image) (after (map_at image)) left.call left.image (leaves image left.call left.image is) unlikely) mounts)
+      ]
 
   -- `after` is the map of the call's step, or no change
   abbrev IsStepOf : Option OpenSet → ℕ → Operation → Type 0
@@ -128,8 +133,9 @@ module _ (old mid new : LogView) (ready : IsReady old) (read : HasOnlyRead old m
   tells set who operation step image told = record {
     moment = omega (arith, read.device.moment, changes.runs.kept.moment);
     told = λ t m le left. elim (anew image told t m le left) [
-        inl earlier ↦ inl earlier
-      | inr is ↦ inr (one_more (map_at image) (after (map_at image)) (plain_step constants (before set image) who operation).state.primary (map_at image) m (step image told) is) ];
+      | inl earlier ↦ inl earlier
+      | inr is ↦ inr (one_more (map_at image) (after (map_at image)) (plain_step constants (before set image) who operation).state.primary (map_at image) m (step image told) is)
+    ];
   }
 
   no_rollback : (u v : FlaggedMap) → TellsOnly (crash_of g old.device).rollback (crash_of new.device.geometry new.device).rollback u v
@@ -164,9 +170,11 @@ module _ (old mid new : LogView) (ready : IsReady old) (read : HasOnlyRead old m
             (subst (λ (x : Log). UnlessFailedWrite kind (LogFollows constants (before set from.0) (log_in g old.log from.0) x call.operation call.reply)) to.2
             (follows from.0 to.0 from.1 to.1))));
         cuts = λ telling b b_is.
-            let from = mapped_from (before set) old.device.image b b_is in
-            (subst (λ (x : StoreState). TellsOnly (crash_of g old.device).primary (crash_of new.device.geometry new.device).primary x.primary (plain_step constants x call.who call.operation).state.primary) from.2
-            (tells set call.who call.operation step from.0 from.1), no_rollback _ _);
+            let from = mapped_from (before set) old.device.image b b_is in (
+              subst (λ (x : StoreState). TellsOnly (crash_of g old.device).primary (crash_of new.device.geometry new.device).primary x.primary (plain_step constants x call.who call.operation).state.primary) from.2
+                  (tells set call.who call.operation step from.0 from.1),
+              no_rollback _ _,
+            );
       };
       may_end = subst (λ (k : Kind). IsTrue (may_end call.operation k)) (sym is_kind) ends;
     }
@@ -177,16 +185,16 @@ module _ (old mid new : LogView) (ready : IsReady old) (read : HasOnlyRead old m
       → map_in new.device.geometry new.log left ≡ after (map_at image)
   map_now is image left told now =
       let mapped : map_in mid.device.geometry new.log left ≡ after (map_in mid.device.geometry mid.log image) =
-          subst (λ (e : Ending). ByEnding e (map_in mid.device.geometry new.log left ≡ after (map_in mid.device.geometry mid.log image)) (Unit {0})) is
-          (changes.map_is image (read.device.image ∙ told) left now) in
+      subst (λ (e : Ending). ByEnding e (map_in mid.device.geometry new.log left ≡ after (map_in mid.device.geometry mid.log image)) (Unit {0})) is
+      (changes.map_is image (read.device.image ∙ told) left now) in
       (λ i. map_in (changes.runs.kept.geometry i) new.log left) ∙ mapped ∙ (λ i. after (map_in (read.device.geometry i) (read.log i) image))
 
   log_now : ending ≡ Done → (image left : List ℕ) → old.device.image ≡ Some image → new.device.image ≡ Some left
       → Step (log_in g old.log image) (log_in new.device.geometry new.log left)
   log_now is image left told now =
       let stepped : Step (log_in mid.device.geometry mid.log image) (log_in mid.device.geometry new.log left) =
-          subst (λ (e : Ending). ByEnding e (Step (log_in mid.device.geometry mid.log image) (log_in mid.device.geometry new.log left)) (log_in mid.device.geometry new.log left ≡ log_in mid.device.geometry mid.log image)) is
-          (changes.log_is image (read.device.image ∙ told) left now) in
+      subst (λ (e : Ending). ByEnding e (Step (log_in mid.device.geometry mid.log image) (log_in mid.device.geometry new.log left)) (log_in mid.device.geometry new.log left ≡ log_in mid.device.geometry mid.log image)) is
+      (changes.log_is image (read.device.image ∙ told) left now) in
       subst (λ (x : Log). Step (log_in g old.log image) x) (λ i. log_in (sym changes.runs.kept.geometry i) new.log left)
       (subst (λ (x : Log). Step x (log_in mid.device.geometry new.log left)) (λ i. log_in (read.device.geometry i) (read.log i) image) stepped)
 
@@ -241,14 +249,15 @@ module _ (old mid new : LogView) (ready : IsReady old) (read : HasOnlyRead old m
         → MountsToOne g (map_at image) (after (map_at image)) left
     left_map image left told now maps stand =
         let inside = subst (λ (e : Ending). IfFailed e (ForSome new.device.image (FailedInside new.device (LeavesOneOf mid after image)))) is
-            (changes.runs.failed image (read.device.image ∙ told)) left now in
+        (changes.runs.failed image (read.device.image ∙ told)) left now in
         elim (inside.told stand.tells) [
-          inl torn ↦
-            let same : inside.call ≡ stand.call = some_is (sym torn ∙ stand.torn) in
-            let unlikely : IsUnlikely g (Some inside.call) left =
-                subst (λ (c : DeviceCall). IsUnlikely g (Some c) left) (sym same) (subst (λ (x : Geometry). IsUnlikely x (Some stand.call) left) geometry (stand.unlikely left now)) in
-            one_of g (map_at image) (after (map_at image)) (Some inside.call) left (leaves image (Some inside.call) left inside.inside) unlikely
-        | inr whole ↦ leaves image None left whole ]
+          | inl torn ↦
+              let same : inside.call ≡ stand.call = some_is (sym torn ∙ stand.torn) in
+              let unlikely : IsUnlikely g (Some inside.call) left =
+              subst (λ (c : DeviceCall). IsUnlikely g (Some c) left) (sym same) (subst (λ (x : Geometry). IsUnlikely x (Some stand.call) left) geometry (stand.unlikely left now)) in
+              one_of g (map_at image) (after (map_at image)) (Some inside.call) left (leaves image (Some inside.call) left inside.inside) unlikely
+          | inr whole ↦ leaves image None left whole
+        ]
 
     pub stopped : old.log.hash_bits ≤ 32 → note.doubt ≡ Some (record { who = who; operation = operation }) → IsStopped new note
     stopped bits doubt = record {

@@ -6,6 +6,7 @@ mod feeding;
 mod mounting;
 mod notes;
 mod plain;
+mod resetting;
 
 pub(crate) use active::{ActiveSet, Begun};
 pub(crate) use plain::PlainStore;

@@ -85,12 +85,7 @@ impl<F: Flash> PlainStore<F> {
         }
     }
 
-    pub(crate) fn get(
-        &mut self,
-        key: &[u8],
-        offset: u32,
-        buf: &mut [u8],
-    ) -> Result<Got, KvError>
+    pub(crate) fn get(&mut self, key: &[u8], offset: u32, buf: &mut [u8]) -> Result<Got, KvError>
         requires is { Is F.state self.old }
         ensures is { Is F.state self.new }
         ensures answers { (who : ℕ) → CallsBy F.state self.old self.new

@@ -12,6 +12,6 @@ use Rattle.tdb_store.proofs.plain.PlainStore.get.Goals as goal
 pub returns-clause-answers : goal.returns-clause-answers
 returns-clause-answers g c who =
     read_call (view_of g.F.Flash.state c.args.self.now.log) (view_of g.F.Flash.state c.get.new.self) c.args.self.now.active (noted_in c.args.self.now.stopped)
-    (ap noted_in c.in_ok-check_running.ensures) (only_read c.get.ensures.reads) (answered who (Part c.args.key.now c.args.offset (length c.args.buf.now)) (got_or c.get.result c.get.new.buf)) 
+    (ap noted_in c.in_ok-check_running.ensures) (only_read c.get.ensures.reads) (answered who (Part c.args.key.now c.args.offset (length c.args.buf.now)) (got_or c.get.result c.get.new.buf))
     (subst (λ (n : ℕ). AnswersAs (view_of g.F.Flash.state c.args.self.now.log) (view_of g.F.Flash.state c.get.new.self) (answered who (Part c.args.key.now c.args.offset n) (got_or c.get.result c.get.new.buf)))
     c.fill.auto.self (c.get.ensures.answers who))
