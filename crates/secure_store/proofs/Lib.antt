@@ -1,3 +1,8 @@
+mod ArmingLemmas
+mod GoingLemmas
+mod ResetLemmas
+mod RunningLemmas
+mod SettleLemmas
 pub mod AbsorbingLemmas
 pub mod AnyCutLemmas
 pub mod CutLemmas
@@ -11,8 +16,8 @@ pub mod OtherKeyLemmas
 pub mod OtherViewLemmas
 pub mod PairLemmas
 pub mod ProtectedLemmas
-pub mod ReadingLemmas
 pub mod ReadStepLemmas
+pub mod ReadingLemmas
 pub mod RemoveLemmas
 pub mod RoomLemmas
 pub mod RulesLemmas

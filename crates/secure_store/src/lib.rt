@@ -5,6 +5,8 @@
 #![tactic(auto)]
 
 mod arming;
+mod asking;
+mod doubt;
 mod iterating;
 pub mod laws;
 mod limits;
@@ -16,6 +18,8 @@ mod store;
 #[cfg(test)]
 mod tests;
 mod viewing;
+mod writes;
+mod writing;
 
 pub use limits::{MAX_SECURE_VALUE, SEAL_SIZE, TAG_SIZE};
 pub use store::SecureStore;
