@@ -1,6 +1,7 @@
 -- Calls that write, one behind another, on one of the two stores.
-use Rattle.std.proofs.Common.{◌≡◌, ◌⊎◌, ℕ, zero, suc, Option, Some, None, refl, sym, ◌∙◌, ap, subst, inl, inr, arith}
+use Rattle.std.proofs.Common.{◌≡◌, ◌⊎◌, ℕ, zero, suc, Option, Some, None, refl, sym, ◌∙◌, ap, subst, inl, inr, arith, true}
 use Rattle.std.specs.Prelude.{is_some, IsTrue, MatchOption, Contains, [], ◌∷◌}
+use mathlib.Core.Bool.{false≢true}
 use Rattle.kv_model.specs.declared.error.KvError.{KvError}
 use Rattle.kv_model.specs.declared.error.KvError.TheVariants as error
 use Rattle.kv_model.specs.declared.call.Reply.{Reply}
@@ -8,10 +9,10 @@ use Rattle.kv_model.specs.declared.call.Reply.TheVariants.{Done, Refused}
 use Rattle.kv_model.specs.Constants.{Constants}
 use Rattle.kv_model.specs.FlaggedMap.{FlaggedMap}
 use Rattle.kv_model.specs.StoreState.{Doubt, Maps, StoreState, maps_of}
-use Rattle.kv_model.specs.Operations.{Operation}
+use Rattle.kv_model.specs.Operations.{Operation, Abort}
 use Rattle.kv_model.specs.PlainStep.{plain_rules}
 use Rattle.kv_model.specs.Rules.{Outcome, Rules, cuts, failed_write, step}
-use Rattle.kv_model.specs.Kv.{Answers, Clock, IsLawful, Kind, KvState, LeadsTo, TellsOnly, answered, kind_of, Ruled, FailedRead, FailedWrite, Mismatched, Wanted}
+use Rattle.kv_model.specs.Kv.{Answers, Clock, IsLawful, Kind, KvState, LeadsTo, TellsOnly, UnlessFailedWrite, answered, kind_of, may_end, Ruled, FailedRead, FailedWrite, Mismatched, Wanted}
 use Rattle.kv_model.proofs.PerformLemmas.{Keeps-trans}
 use Rattle.secure_store.specs.Going.{FailsAs, HasFailed, HasGone, WhereStill}
 use Rattle.secure_store.specs.Running.{IsIdle}
@@ -29,7 +30,7 @@ error_in (Refused e) = e
 error_in reply = error.NotFound
 
 -- a clock tells more, of maps that are all one of two
-tells_more : {old mid new : Clock} {a b before after : FlaggedMap} → TellsOnly old mid a b → TellsOnly mid new before after → IsEither before a b → IsEither after a b
+pub tells_more : {old mid new : Clock} {a b before after : FlaggedMap} → TellsOnly old mid a b → TellsOnly mid new before after → IsEither before a b → IsEither after a b
     → TellsOnly old new a b
 tells_more {a = a} {b = b} first second one two = record {
   moment = omega (arith, first.moment, second.moment);
@@ -119,6 +120,34 @@ module _ (rules_by : Constants → Rules) (old mid new : KvState) (now after : S
     told = told_failed e answers;
     moments = all_moments (Refused e) answers;
   }
+
+quiet_abort : (kind : Kind) → IsTrue (may_end Abort kind) → kind ≡ Ruled
+quiet_abort Ruled may = refl
+quiet_abort FailedRead may = absurd (false≢true may)
+quiet_abort FailedWrite may = absurd (false≢true may)
+quiet_abort Mismatched may = absurd (false≢true may)
+quiet_abort Wanted may = absurd (false≢true may)
+
+-- an abort of what was begun, whatever it answers
+pub gone_ends : (rules_by : Constants → Rules) (old mid new : KvState) (now after : StoreState → StoreState) (goal : StoreState → FlaggedMap) (who : ℕ)
+    → HasGone rules_by old mid now goal
+    → ((state : StoreState) → IsIdle rules_by old state → step (plain_rules mid.known.constants) (now state) who Abort ≡ record { state = after state; reply = Done })
+    → ((state : StoreState) → IsIdle rules_by old state → IsEither (now state).primary state.primary (goal state))
+    → ((state : StoreState) → IsIdle rules_by old state → IsEither (after state).primary state.primary (goal state))
+    → (reply : Reply) → Answers rules_by mid new (answered who Abort reply) → HasGone rules_by old new after goal
+gone_ends rules_by old mid new now after goal who gone granted before behind reply answers =
+    let quiet : kind_of reply ≡ Ruled = quiet_abort (kind_of reply) answers.may_end in
+    record {
+      keeps = Keeps-trans gone.keeps answers.does.keeps;
+      steady = λ steady. subst (λ (kind : Kind). UnlessFailedWrite kind (new.known.steady ≡ true)) quiet (answers.does.steady (gone.steady steady));
+      told = λ state idle.
+          let there = some_of new.known.state (answers.does.keeps.tells_state ∙ ap is_some (gone.told state idle)) in
+          let leads = subst (λ (kind : Kind). LeadsTo (rules_by mid.known.constants) (now state) (answered who Abort reply) there.0 kind) quiet
+          (answers.does.leads (now state) (gone.told state idle) there.0 there.1) in
+          there.1 ∙ ap (λ (o : Outcome). Some o.state)
+          (sym leads ∙ plain_step rules_by old mid new now after goal who Abort gone granted before behind state idle);
+      moments = all_moments rules_by old mid new now after goal who Abort gone granted before behind reply answers;
+    }
 
 -- ---- what the images of a plain store mount to
 

@@ -1,5 +1,9 @@
 mod ArmingLemmas
+mod BehindLemmas
 mod GoingLemmas
+mod HeldLemmas
+mod InfoLemmas
+mod RemovingLemmas
 mod ResetLemmas
 mod RunningLemmas
 mod SettleLemmas

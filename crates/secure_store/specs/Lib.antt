@@ -9,6 +9,7 @@ pub mod Laws
 pub mod Limits
 pub mod Pair
 pub mod Reading
+pub mod Removing
 pub mod Running
 pub mod Sealing
 pub mod SecureState

@@ -1,7 +1,7 @@
 //! A secure store: a store over two others, which seals values and notices an old value that was
 //! put back. The definitions in specs/ say what it may answer, and [`laws`] what these mean.
 //!
-//! The calls that read stand; those that set and remove are to come.
+//! The calls that read stand, the iterators, remove and reset; those that set are to come.
 #![tactic(auto)]
 
 mod arming;
