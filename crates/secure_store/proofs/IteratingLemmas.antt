@@ -1,6 +1,6 @@
 -- A call on the primary store's iterators, as a call of the secure store.
 use Rattle.std.proofs.Common.{◌≡◌, ℕ, Bool, List, Option, Some, None, refl, sym, ◌∙◌, ap, subst}
-use Rattle.std.specs.Prelude.{if◌then◌else◌, is_some, IsTrue}
+use Rattle.std.specs.Prelude.{if◌then◌else◌, is_some, is_none, true, IsTrue}
 use mathlib.Core.Bool.{false≢true}
 use Rattle.kv_model.specs.declared.error.KvError.{KvError}
 use Rattle.kv_model.specs.declared.call.Reply.{Reply}
@@ -16,9 +16,12 @@ use Rattle.kv_model.specs.Kv.{Answers, Kind, KvState, LeadsTo, TellsOnly, answer
 use Rattle.kv_model.specs.Checks.{Check, first_refusal, may_fail_reading}
 use Rattle.secure_store.specs.Pair.{pair, pair_constants}
 use Rattle.secure_store.specs.SecureStep.{secure_rules}
-use Rattle.secure_store.specs.Store.{IsPlainStore, joined}
+use Rattle.secure_store.specs.declared.noted.Noted.{Noted}
+use Rattle.secure_store.specs.Doubts.{joining_of, noted_in}
+use Rattle.secure_store.specs.Store.{IsPlainStore, IsPlainWhile, joined}
 use Rattle.secure_store.proofs.PairLemmas.{carries_above, cause_all, first_of, keeps_both, read_none, same_told, second_of, told_both, unless_both}
 use Rattle.secure_store.proofs.ReadingLemmas.{some_of}
+use Rattle.secure_store.proofs.SettleLemmas.{running_answers, runs_plain}
 use Rattle.secure_store.proofs.StoreReadLemmas.{none_of}
 
 -- the calls on iterators, which are the same to a plain store and to a secure one
@@ -112,6 +115,27 @@ module _ (root : List ℕ) (iv : ℕ) (constants others : Constants) (above belo
   still_runs call after reply Mismatched running may leads = absurd leads
   still_runs call after reply Wanted running may leads = ap (λ (s : StoreState). s.doubt) leads ∙ running
 
+  advanced_unset : (n : ℕ) (found : Option (List ℕ)) → (advanced above who n found).state.open_set ≡ above.open_set
+  advanced_unset n None = refl
+  advanced_unset n (Some key) = refl
+
+  refused_unset : (call : Iterating) (found : Option KvError) → (refused_or (plain_rules constants) above who (operation_by call) found).state.open_set ≡ above.open_set
+  refused_unset (Opens n prefix) (Some e) = refl
+  refused_unset (Opens n prefix) None = refl
+  refused_unset (Gives n) (Some e) = refl
+  refused_unset (Gives n) None = advanced_unset n (next_key constants.hash_bits above.primary (position_of above who n))
+  refused_unset (Closes n) (Some e) = refl
+  refused_unset (Closes n) None = refl
+
+  pub still_unset : (call : Iterating) (after : StoreState) (reply : Reply) (kind : Kind) → above.doubt ≡ None → IsTrue (may_end (operation_by call) kind)
+      → LeadsTo (plain_rules constants) above (answered who (operation_by call) reply) after kind → after.open_set ≡ above.open_set
+  still_unset call after reply Ruled running may leads =
+      ap (λ (o : Outcome). o.state.open_set) (sym leads ∙ plain_is call running) ∙ refused_unset call (found call)
+  still_unset call after reply FailedRead running may leads = ap (λ (o : Outcome). o.state.open_set) leads.2
+  still_unset call after reply FailedWrite running may leads = absurd (never_writes call may)
+  still_unset call after reply Mismatched running may leads = absurd leads
+  still_unset call after reply Wanted running may leads = ap (λ (s : StoreState). s.open_set) leads
+
 module _ (root : List ℕ) (iv : ℕ) (rules_by : Constants → Rules) (u u' r : KvState) (plain : IsPlainStore rules_by u) (who : ℕ) (call : Iterating) (reply : Reply)
     (answers : Answers rules_by u u' (answered who (operation_by call) reply)) where
   plain_leads : (above after : StoreState) → u.known.state ≡ Some above → u'.known.state ≡ Some after
@@ -128,6 +152,11 @@ module _ (root : List ℕ) (iv : ℕ) (rules_by : Constants → Rules) (u u' r :
         ap is_some (still_runs root iv u.known.constants r.known.constants there.0 there.0 who call after reply (kind_of reply) (none_of there.0.doubt (plain.running there.0 there.1)) answers.may_end
         (plain_leads there.0 after there.1 later));
   }
+
+  pub iterating_unset : (after : StoreState) → u'.known.state ≡ Some after → (above : StoreState) → u.known.state ≡ Some above → after.open_set ≡ above.open_set
+  iterating_unset after later above told =
+      still_unset root iv u.known.constants r.known.constants above above who call after reply (kind_of reply) (none_of above.doubt (plain.running above told)) answers.may_end
+      (plain_leads above after told later)
 
   pub iterating_answers : Answers secure_rules (pair root (joined iv) u r) (pair root (joined iv) u' r) (answered who (operation_by call) reply)
   iterating_answers = record {
@@ -160,3 +189,23 @@ module _ (root : List ℕ) (iv : ℕ) (rules_by : Constants → Rules) (u u' r :
     };
     may_end = answers.may_end;
   }
+
+-- a secure store that runs
+module _ (stopped : Option Noted) (running : is_none stopped ≡ true) (root : List ℕ) (iv : ℕ) (rules_by : Constants → Rules) (u u' r : KvState)
+    (plain : IsPlainWhile (is_none stopped) rules_by u) (who : ℕ) (call : Iterating) (reply : Reply) (answers : Answers rules_by u u' (answered who (operation_by call) reply)) where
+  pub iterates : Answers secure_rules (pair root (joining_of iv (noted_in stopped)) u r) (pair root (joining_of iv (noted_in stopped)) u' r) (answered who (operation_by call) reply)
+  iterates =
+      running_answers stopped running root iv iv u r u' r (answered who (operation_by call) reply)
+      (iterating_answers root iv rules_by u u' r (runs_plain (is_none stopped) plain running) who call reply answers)
+
+  pub iterating_while : IsPlainWhile (is_none stopped) rules_by u'
+  iterating_while =
+      let kept = iterating_plain root iv rules_by u u' r (runs_plain (is_none stopped) plain running) who call reply answers in
+      record {
+        rules = kept.rules;
+        running = λ again. kept.running;
+        no_set = λ again after later.
+            let there = some_of u.known.state (sym answers.does.keeps.tells_state ∙ ap is_some later) in
+            ap is_some (iterating_unset root iv rules_by u u' r (runs_plain (is_none stopped) plain running) who call reply answers after later there.0 there.1)
+            ∙ plain.no_set running there.0 there.1;
+      }

@@ -1,3 +1,12 @@
+mod ArmingLemmas
+mod BehindLemmas
+mod GoingLemmas
+mod HeldLemmas
+mod InfoLemmas
+mod RemovingLemmas
+mod ResetLemmas
+mod RunningLemmas
+mod SettleLemmas
 pub mod AbsorbingLemmas
 pub mod AnyCutLemmas
 pub mod CutLemmas
@@ -11,8 +20,8 @@ pub mod OtherKeyLemmas
 pub mod OtherViewLemmas
 pub mod PairLemmas
 pub mod ProtectedLemmas
-pub mod ReadingLemmas
 pub mod ReadStepLemmas
+pub mod ReadingLemmas
 pub mod RemoveLemmas
 pub mod RoomLemmas
 pub mod RulesLemmas

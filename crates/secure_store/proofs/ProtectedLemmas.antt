@@ -1,6 +1,6 @@
 -- Which sets are refused since a store holds the key write-once.
-use Rattle.std.proofs.Common.{◌≡◌, ℕ, ◌+◌, Bool, true, false, nat_lt, List, length, Option, Some, None, refl, sym, ◌∙◌, ap, arith}
-use Rattle.std.specs.Prelude.{if◌then◌else◌, not, ◌&&◌, is_some, ◌↔◌}
+use Rattle.std.proofs.Common.{◌≡◌, ℕ, Bool, true, false, nat_lt, List, length, Option, Some, None, refl, sym, ◌∙◌, arith}
+use Rattle.std.specs.Prelude.{if◌then◌else◌, ◌&&◌, ◌↔◌}
 use mathlib.Core.Bool.{false≢true}
 use Rattle.std.proofs.lemmas.Bool.Decides.{nat_tests}
 use Rattle.kv_model.specs.declared.error.KvError.{KvError}
@@ -8,8 +8,7 @@ use Rattle.kv_model.specs.declared.error.KvError.TheVariants as error
 use Rattle.kv_model.specs.declared.call.Reply.{Reply}
 use Rattle.kv_model.specs.declared.call.Reply.TheVariants.{Refused}
 use Rattle.kv_model.specs.Constants.{Constants}
-use Rattle.kv_model.specs.Flags.{is_secure_flags, is_mirrored}
-use Rattle.kv_model.specs.Keys.{is_key}
+use Rattle.kv_model.specs.Flags.{is_mirrored}
 use Rattle.kv_model.specs.StoreState.{StoreState}
 use Rattle.kv_model.specs.Operations.{Set}
 use Rattle.kv_model.specs.Rules.{refused_or}

@@ -1,5 +1,5 @@
 -- What contracts see of a secure store, by its two stores.
-use Rattle.std.specs.Prelude.{◌≡◌, ◌⊎◌, ℕ, true, false, List, Option, Some, None, Result, Ok, Err, is_some, take, ◌+◌, ◌≤◌}
+use Rattle.std.specs.Prelude.{◌≡◌, ◌⊎◌, ℕ, Bool, true, false, List, Option, Some, None, Result, Ok, Err, is_some, take, ◌+◌, ◌≤◌}
 use Rattle.std.specs.Option.{ForSome}
 use Rattle.std.specs.FinMap.{empty, get}
 use Rattle.kv_model.specs.declared.error.KvError.{KvError}
@@ -21,6 +21,12 @@ use Rattle.secure_store.specs.Pair.{Joining}
 pub record IsPlainStore (rules_by : Constants → Rules) (s : KvState) : Type 0 where
   pub rules : is_some s.known.state ≡ true → rules_by ≡ plain_rules
   pub running : ForSome s.known.state (λ (state : StoreState). is_some state.doubt ≡ false)
+
+-- A store that tells its state goes by the plain rules, and while the two run it runs and has no active set.
+pub record IsPlainWhile (runs : Bool) (rules_by : Constants → Rules) (s : KvState) : Type 0 where
+  pub rules : is_some s.known.state ≡ true → rules_by ≡ plain_rules
+  pub running : runs ≡ true → ForSome s.known.state (λ (state : StoreState). is_some state.doubt ≡ false)
+  pub no_set : runs ≡ true → ForSome s.known.state (λ (state : StoreState). is_some state.open_set ≡ false)
 
 -- a plain store without an active set and without iterators
 pub record IsFreshStore (rules_by : Constants → Rules) (s : KvState) : Type 0 where

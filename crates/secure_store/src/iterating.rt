@@ -16,6 +16,9 @@ impl<U: Kv, R: Kv> SecureStore<U, R> {
         ensures { Answers secure_rules (state_in self.old) (state_in self.new)
             (answered who (OpenIterator n prefix.now) (done_or result)) }
     {
+        if self.stopped.is_some() {
+            return Err(KvError::Stopped);
+        }
         self.primary.iter_open(who, n, prefix)
     }
 
@@ -26,6 +29,10 @@ impl<U: Kv, R: Kv> SecureStore<U, R> {
             (answered who (Next n) (found_or result out.new)) }
         ensures zeros { AreZerosFrom (found_end result) out.new }
     {
+        if self.stopped.is_some() {
+            out.fill(0);
+            return Err(KvError::Stopped);
+        }
         self.primary.next(who, n, out)
     }
 
@@ -34,6 +41,9 @@ impl<U: Kv, R: Kv> SecureStore<U, R> {
         ensures { Answers secure_rules (state_in self.old) (state_in self.new)
             (answered who (CloseIterator n) (done_or result)) }
     {
+        if self.stopped.is_some() {
+            return Err(KvError::Stopped);
+        }
         self.primary.iter_close(who, n)
     }
 }

@@ -1,10 +1,12 @@
 //! A secure store: a store over two others, which seals values and notices an old value that was
 //! put back. The definitions in specs/ say what it may answer, and [`laws`] what these mean.
 //!
-//! The calls that read stand; those that set and remove are to come.
+//! The calls that read stand, the iterators, remove and reset; those that set are to come.
 #![tactic(auto)]
 
 mod arming;
+mod asking;
+mod doubt;
 mod iterating;
 pub mod laws;
 mod limits;
@@ -16,6 +18,8 @@ mod store;
 #[cfg(test)]
 mod tests;
 mod viewing;
+mod writes;
+mod writing;
 
 pub use limits::{MAX_SECURE_VALUE, SEAL_SIZE, TAG_SIZE};
 pub use store::SecureStore;

@@ -3,9 +3,10 @@ ghost use Rattle.std.specs.Prelude.{◌≡◌, ◌≤◌, ◌+◌, true, IfOk, I
 ghost use Rattle.std.specs.FinMap.{get};
 ghost use Rattle.kv_model.specs.FlaggedMap.{Stored};
 ghost use Rattle.kv_model.specs.Keys.{is_key};
+ghost use Rattle.secure_store.specs.Removing.{FlagsOr};
 ghost use Rattle.secure_store.specs.Reading.{BeginsWith, HasRead, IsPart, IsUnread, WhereTold};
 
-use kv_model::{Got, Kv, KvError};
+use kv_model::{Flags, Got, Kv, KvError};
 
 /// Reads the front of a key's value, as much as there is and fits. It gives none where the store
 /// lacks the key.
@@ -57,5 +58,25 @@ pub(crate) fn read_part<K: Kv>(
             }
         }
         Err(error) => Err(error),
+    }
+}
+
+/// The flags that a store keeps with a key. It gives none where the store lacks the key.
+pub(crate) fn flags_of<K: Kv>(store: &mut K, key: &[u8]) -> Result<Option<Flags>, KvError>
+    requires { is_key key.now ≡ true }
+    ensures read { HasRead (K.state store.old) (K.state store.new) }
+    ensures refusal { IfErr result (IsUnread (K.state store.old) (K.state store.new)) }
+    ensures holds { WhereTold K.rules_by (K.state store.old) (λ state.
+        FlagsOr (get state.primary key.now) result) }
+{
+    match store.info(key) {
+        Ok(info) => Ok(Some(info.flags)),
+        Err(error) => {
+            if error == KvError::NotFound {
+                Ok(None)
+            } else {
+                Err(error)
+            }
+        }
     }
 }

@@ -1,5 +1,5 @@
 // The calls of a secure store that read.
-ghost use Rattle.std.specs.Prelude.{◌≡◌, ◌≤◌, ℕ, IfOk, length, take};
+ghost use Rattle.std.specs.Prelude.{◌≡◌, ◌≤◌, ℕ, true, IfOk, is_none, length, take};
 ghost use Rattle.kv_model.specs.Given.{AreZerosFrom, IsGot, facts_or, got_or, read_end};
 ghost use Rattle.kv_model.specs.Kv.{Answers, answered};
 ghost use Rattle.kv_model.specs.Operations.{Info as InfoOf, Part};
@@ -65,6 +65,7 @@ impl<U: Kv, R: Kv> SecureStore<U, R> {
             rollback,
             root: *root,
             iv,
+            stopped: None,
         }
     }
 
@@ -99,6 +100,7 @@ impl<U: Kv, R: Kv> SecureStore<U, R> {
             rollback,
             root: _,
             iv: _,
+            stopped: _,
         } = self;
         (primary, rollback)
     }
@@ -106,6 +108,7 @@ impl<U: Kv, R: Kv> SecureStore<U, R> {
     // Reads a value. Behind what was read, and after a refusal, the buffer may hold bytes that are
     // not authenticated.
     fn read(&mut self, key: &Key, offset: u32, buf: &mut [u8]) -> Result<Got, KvError>
+        requires { is_none self.old.stopped ≡ true }
         ensures answers { (who : ℕ) → Answers secure_rules (state_in self.old) (state_in self.new)
             (answered who (Part key.now offset (length buf.old)) (got_or result buf.new)) }
         ensures got { IfOk result
@@ -122,6 +125,7 @@ impl<U: Kv, R: Kv> SecureStore<U, R> {
 
     // The same of bytes that may be no key.
     fn read_any(&mut self, key: &[u8], offset: u32, buf: &mut [u8]) -> Result<Got, KvError>
+        requires { is_none self.old.stopped ≡ true }
         ensures answers { (who : ℕ) → Answers secure_rules (state_in self.old) (state_in self.new)
             (answered who (Part key.now offset (length buf.old)) (got_or result buf.new)) }
         ensures got { IfOk result
@@ -150,6 +154,10 @@ impl<U: Kv, R: Kv> SecureStore<U, R> {
         ensures own { IfOk result (λ got. OwnsWhole self.old.root key.now
             (R.state self.old.rollback) offset got buf.new) }
     {
+        if self.stopped.is_some() {
+            clear_from(buf, 0);
+            return Err(KvError::Stopped);
+        }
         match self.read_any(key, offset, buf) {
             Ok(got) => {
                 clear_from(buf, got.read as usize);
@@ -164,6 +172,7 @@ impl<U: Kv, R: Kv> SecureStore<U, R> {
 
     // What a key shows, without a byte of its value.
     fn describe(&mut self, key: &Key) -> Result<Info, KvError>
+        requires { is_none self.old.stopped ≡ true }
         ensures { (who : ℕ) → Answers secure_rules (state_in self.old) (state_in self.new)
             (answered who (InfoOf key.now) (facts_or result)) }
     {
@@ -183,6 +192,9 @@ impl<U: Kv, R: Kv> SecureStore<U, R> {
         ensures { (who : ℕ) → Answers secure_rules (state_in self.old) (state_in self.new)
             (answered who (InfoOf key.now) (facts_or result)) }
     {
+        if self.stopped.is_some() {
+            return Err(KvError::Stopped);
+        }
         match key_of(key) {
             Ok(key) => self.describe(&key),
             Err(refusal) => Err(refusal),

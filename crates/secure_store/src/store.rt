@@ -1,7 +1,10 @@
 // A secure store over two others.
-ghost use Rattle.secure_store.specs.Store.{IsPlainStore};
+ghost use Rattle.std.specs.Prelude.{is_none};
+ghost use Rattle.secure_store.specs.Doubts.{WhereStopped, noted_in};
+ghost use Rattle.secure_store.specs.Store.{IsPlainWhile};
 ghost use Rattle.secure_store.specs.Facts.{plain_prop};
 
+use crate::noted::Noted;
 use kv_model::Kv;
 
 /// A store over two others. Values stand in the primary store as sealed records, authenticated and
@@ -13,6 +16,9 @@ pub struct SecureStore<U: Kv, R: Kv> {
     pub(crate) root: [u8; 16],
     /// The number of the next set that takes one.
     pub(crate) iv: u64,
-    ghost above: { IsPlainStore U.rules_by (U.state primary) } by { plain_prop },
-    ghost below: { IsPlainStore R.rules_by (R.state rollback) } by { plain_prop },
+    /// What a store tells in which a write failed; no call of it is made any more.
+    pub(crate) stopped: Option<Noted>,
+    ghost above: { IsPlainWhile (is_none stopped) U.rules_by (U.state primary) } by { plain_prop },
+    ghost below: { IsPlainWhile (is_none stopped) R.rules_by (R.state rollback) } by { plain_prop },
+    ghost in_doubt: { ∥ WhereStopped root (noted_in stopped) (U.state primary) (R.state rollback) ∥₁ },
 }

@@ -10,9 +10,9 @@ use Rattle.secure_store.proofs.store.SecureStore.get.Goals as goal
 pub returns-in-Ok-clause-answers : goal.returns-in-Ok-clause-answers
 returns-in-Ok-clause-answers g c who =
     subst (λ (l : List ℕ). Answers secure_rules (state_in c.args.self.now) (state_in c.read_any.new.self) (answered who (Part c.args.key.now c.args.offset (length c.args.buf.now)) (Value l)))
-    (sym c.clear_from.ensures.front) (c.in-Ok.ensures.answers who)
+    (sym c.clear_from-in-Ok.ensures.front) (c.in-Ok.ensures.answers who)
 
 pub returns-in-Ok-clause-own : goal.returns-in-Ok-clause-own
 returns-in-Ok-clause-own g c =
-    owns_still c.args.self.now.root c.args.key.now (g.R.Kv.state c.args.self.now.rollback) c.args.offset c.in-Ok.got c.read_any.new.buf c.clear_from.new.buf c.clear_from.ensures.front
+    owns_still c.args.self.now.root c.args.key.now (g.R.Kv.state c.args.self.now.rollback) c.args.offset c.in-Ok.got c.read_any.new.buf c.clear_from-in-Ok.new.buf c.clear_from-in-Ok.ensures.front
     c.in-Ok.ensures.own

@@ -1,13 +1,23 @@
+use Rattle.std.proofs.Common.{rules, ◌≡◌, false}
+use Rattle.std.specs.Prelude.{is_some}
 use Rattle.kv_model.specs.Given.{found_or}
-use Rattle.secure_store.proofs.IteratingLemmas.{Gives, iterating_answers, iterating_plain}
+use Rattle.secure_store.proofs.IteratingLemmas.{Gives, iterates, iterating_while}
+use Rattle.secure_store.proofs.SettleLemmas.{not_stopped, some_or_none}
 use Rattle.secure_store.proofs.store.SecureStore.next.Goals as goal
 
 pub returns-clause-answers : goal.returns-clause-answers
 returns-clause-answers g c =
-    iterating_answers c.args.self.now.root c.args.self.now.iv g.U.Kv.rules_by (g.U.Kv.state c.args.self.now.primary) (g.U.Kv.state c.next.new.self)
+    let none : is_some c.args.self.now.stopped ≡ false = search rules in
+    iterates c.args.self.now.stopped (some_or_none _ c.args.self.now.stopped none) c.args.self.now.root c.args.self.now.iv g.U.Kv.rules_by (g.U.Kv.state c.args.self.now.primary) (g.U.Kv.state c.next.new.self)
     (g.R.Kv.state c.args.self.now.rollback) c.args.self.now.above c.args.who (Gives c.args.n) (found_or c.next.result c.next.new.out) c.next.ensures.answers
 
 pub invariant_of-self-clause-above : goal.invariant_of-self-clause-above
 invariant_of-self-clause-above g c =
-    iterating_plain c.args.self.now.root c.args.self.now.iv g.U.Kv.rules_by (g.U.Kv.state c.args.self.now.primary) (g.U.Kv.state c.next.new.self)
+    let none : is_some c.args.self.now.stopped ≡ false = search rules in
+    iterating_while c.args.self.now.stopped (some_or_none _ c.args.self.now.stopped none) c.args.self.now.root c.args.self.now.iv g.U.Kv.rules_by (g.U.Kv.state c.args.self.now.primary) (g.U.Kv.state c.next.new.self)
     (g.R.Kv.state c.args.self.now.rollback) c.args.self.now.above c.args.who (Gives c.args.n) (found_or c.next.result c.next.new.out) c.next.ensures.answers
+
+pub invariant_of-self-clause-in_doubt : goal.invariant_of-self-clause-in_doubt
+invariant_of-self-clause-in_doubt g c =
+    let none : is_some c.args.self.now.stopped ≡ false = search rules in
+    not_stopped c.args.self.now.stopped (some_or_none _ c.args.self.now.stopped none) _ _ _

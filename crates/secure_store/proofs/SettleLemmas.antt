@@ -1,0 +1,354 @@
+-- What a secure store answers once a call on its two stores has run, and what it tells once it was stopped.
+use Rattle.std.proofs.Common.{◌≡◌, ℕ, Bool, true, false, List, Option, Some, None, refl, sym, ◌∙◌, ap, ap₂, subst, inl, inr, arith}
+use Rattle.std.specs.Prelude.{◌&&◌, if◌then◌else◌, is_some, is_none, unwrap_or, Contains}
+use Rattle.std.specs.FinMap.{empty}
+use mathlib.Core.Bool.{false≢true, true≢false}
+use Rattle.std.proofs.Math.Bool.{Bool-set}
+use Rattle.std.proofs.Math.Logic.{∥∥₁_elim}
+use Rattle.kv_model.specs.declared.error.KvError.{KvError}
+use Rattle.kv_model.specs.declared.error.KvError.TheVariants as error
+use Rattle.kv_model.specs.declared.call.Reply.{Reply}
+use Rattle.kv_model.specs.declared.call.Reply.TheVariants.{Done, Refused}
+use Rattle.kv_model.specs.Constants.{Constants}
+use Rattle.kv_model.specs.StoreState.{Maps, StoreState, fresh_state}
+use Rattle.kv_model.specs.Operations.{Operation}
+use Rattle.kv_model.specs.Checks.{first_refusal}
+use Rattle.kv_model.specs.Rules.{Outcome, Rules, before_doubt, cuts, failed_write, number_given_back, number_taken, refused_or, refuses, step}
+use Rattle.kv_model.specs.Kv.{Answered, Answers, Kind, KvState, LeadsTo, UnlessFailedWrite, answered, kind_of, Ruled, FailedRead, FailedWrite, Mismatched, Wanted}
+use Rattle.secure_store.specs.declared.noted.Noted.{Noted}
+use Rattle.secure_store.specs.Doubts.{IsCutIn, IsStopped, WhereStopped, doubted, joining_of, noted_in}
+use Rattle.secure_store.specs.Pair.{Joining, both, pair, pair_constants}
+use Rattle.secure_store.specs.Running.{HasEnded, HasRun, HasStopped, IsIdle, Parts, StaysIdle, TellsOnlyBoth, parts, rules_of}
+use Rattle.secure_store.specs.SecureStep.{secure_rules}
+use Rattle.secure_store.specs.Store.{IsPlainStore, IsPlainWhile, joined}
+use Rattle.secure_store.proofs.PairLemmas.{first_of, keeps_both, read_none, same_told, second_of, told_both}
+use Rattle.secure_store.proofs.ReadingLemmas.{some_of}
+use Rattle.secure_store.proofs.RunningLemmas.{cuts_are, three_cuts}
+use Rattle.secure_store.proofs.StoreReadLemmas.{none_of}
+
+-- ---- a store that was stopped
+
+stopped_step : (rules : Rules) (state : StoreState) (who : ℕ) (operation : Operation) → is_some state.doubt ≡ true → step rules state who operation ≡ refuses state error.Stopped
+stopped_step rules state who operation in_doubt =
+    ap (λ (b : Bool). if b then refuses state error.Stopped else refused_or rules state who operation (first_refusal (rules.checks state who operation))) in_doubt
+
+module _ (root : List ℕ) (u r : KvState) where
+  noted_answers : (noted : StoreState) → is_some noted.doubt ≡ true → (who : ℕ) (operation : Operation)
+      → Answers secure_rules (pair root (λ a b. noted) u r) (pair root (λ a b. noted) u r) (answered who operation (Refused error.Stopped))
+  noted_answers noted in_doubt who operation = record {
+    does = record {
+      keeps = keeps_both root u u r r (λ a b. noted) (λ a b. noted) (read_none u).keeps (read_none r).keeps;
+      cause = tt;
+      steady = λ steady. steady;
+      leads = λ before is after later.
+          let rules = secure_rules (pair_constants root u.known.constants r.known.constants) in
+          let here = (told_both (λ a b. noted) u.known.state r.known.state before is).joined in
+          let there = (told_both (λ a b. noted) u.known.state r.known.state after later).joined in
+          ap (λ (s : StoreState). step rules s who operation) here ∙ stopped_step rules noted who operation in_doubt
+          ∙ ap (λ (s : StoreState). refuses s error.Stopped) (sym there);
+      log = λ before is log log_is. absurd (false≢true (ap is_some log_is));
+      cuts = λ tells before is. (
+        record { moment = omega arith; told = λ t map early told. inl told },
+        record { moment = omega arith; told = λ t map early told. inl told },
+      );
+    };
+    may_end = refl;
+  }
+
+  pub stopped_answers : (number : ℕ) (stopped : Option Noted) → is_some stopped ≡ true → ∥ WhereStopped root (noted_in stopped) u r ∥₁ → (who : ℕ) (operation : Operation)
+      → Answers secure_rules (pair root (joining_of number (noted_in stopped)) u r) (pair root (joining_of number (noted_in stopped)) u r)
+      (answered who operation (Refused error.Stopped))
+  stopped_answers number None is fact who operation = absurd (false≢true is)
+  stopped_answers number (Some noted) is fact who operation =
+      noted_answers noted.state (∥∥₁_elim fact (Bool-set (is_some noted.state.doubt) true) (λ (s : IsStopped root u r noted.state). s.in_doubt)) who operation
+
+-- ---- a store that runs
+
+pub not_stopped : (stopped : Option Noted) → is_none stopped ≡ true → (root : List ℕ) (u r : KvState) → ∥ WhereStopped root (noted_in stopped) u r ∥₁
+not_stopped None is root u r = ∣ tt ∣₁
+not_stopped (Some noted) is root u r = absurd (false≢true is)
+
+pub running_answers : (stopped : Option Noted) → is_none stopped ≡ true → (root : List ℕ) (number later : ℕ) (u r u' r' : KvState) (call : Answered)
+    → Answers secure_rules (pair root (joined number) u r) (pair root (joined later) u' r') call
+    → Answers secure_rules (pair root (joining_of number (noted_in stopped)) u r) (pair root (joining_of later (noted_in stopped)) u' r') call
+running_answers None is root number later u r u' r' call answers = answers
+running_answers (Some noted) is root number later u r u' r' call answers = absurd (false≢true is)
+
+-- what holds of a store that runs
+pub at_running : (stopped : Option Noted) → is_none stopped ≡ true → (number : ℕ) (P : Joining → Type 0) → P (joined number) → P (joining_of number (noted_in stopped))
+at_running None is number P p = p
+at_running (Some noted) is number P p = absurd (false≢true is)
+
+pub some_or_none : (X : Type 0) (o : Option X) → is_some o ≡ false → is_none o ≡ true
+some_or_none X None is = refl
+some_or_none X (Some x) is = absurd (true≢false is)
+
+pub runs_plain : {by : Constants → Rules} {s : KvState} (runs : Bool) → IsPlainWhile runs by s → runs ≡ true → IsPlainStore by s
+runs_plain runs plain is = record { rules = plain.rules; running = plain.running is }
+
+pub idle_told : {by : Constants → Rules} {s : KvState} (runs : Bool) → IsPlainWhile runs by s → runs ≡ true → (state : StoreState) → s.known.state ≡ Some state → IsIdle by s state
+idle_told runs plain is state told = record {
+  rules = plain.rules (ap is_some told);
+  told = told;
+  running = none_of state.doubt (plain.running is state told);
+  no_set = none_of state.open_set (plain.no_set is state told);
+}
+
+-- a store that still runs is a plain store as before
+pub while_idle : {by : Constants → Rules} {s s' : KvState} (runs : Bool) → IsPlainWhile runs by s → runs ≡ true → is_some s'.known.state ≡ is_some s.known.state → StaysIdle by s s'
+    → IsPlainWhile runs by s'
+while_idle {by} {s} {s'} runs plain is same stays = record {
+  rules = λ told. plain.rules (sym same ∙ told);
+  running = λ again state told. let there = here state told in ap (λ (o : StoreState). is_some o.doubt) (same_told s'.known.state there.0 state there.1.told told) ∙ ap is_some there.1.running;
+  no_set = λ again state told. let there = here state told in ap (λ (o : StoreState). is_some o.open_set) (same_told s'.known.state there.0 state there.1.told told) ∙ ap is_some there.1.no_set;
+} where
+  here : (state : StoreState) → s'.known.state ≡ Some state → (now : StoreState) × IsIdle by s' now
+  here state told = let before = some_of s.known.state (sym same ∙ ap is_some told) in stays before.0 (idle_told runs plain is before.0 before.1)
+
+-- of a store that was stopped nothing is said but its rules
+pub while_stopped : {by : Constants → Rules} {s s' : KvState} (runs : Bool) → IsPlainWhile runs by s → is_some s'.known.state ≡ is_some s.known.state → IsPlainWhile false by s'
+while_stopped runs plain same = record { rules = λ told. plain.rules (sym same ∙ told); running = λ never. absurd (false≢true never); no_set = λ never. absurd (false≢true never) }
+
+-- ---- a call that ran
+
+unless_and : (a b : Bool) (kind : Kind) → UnlessFailedWrite kind ((a ≡ true) × (b ≡ true)) → UnlessFailedWrite kind ((a && b) ≡ true)
+unless_and a b Ruled p = ap₂ (λ (x y : Bool). x && y) p.0 p.1
+unless_and a b FailedRead p = ap₂ (λ (x y : Bool). x && y) p.0 p.1
+unless_and a b FailedWrite p = tt
+unless_and a b Mismatched p = ap₂ (λ (x y : Bool). x && y) p.0 p.1
+unless_and a b Wanted p = ap₂ (λ (x y : Bool). x && y) p.0 p.1
+
+module _ (old new : Parts) (call : Answered) (run : HasRun old new call)
+    (runs : ((state : StoreState) → old.primary.known.state ≡ Some state → IsIdle old.above old.primary state))
+    (runs_too : ((state : StoreState) → old.rollback.known.state ≡ Some state → IsIdle old.below old.rollback state)) where
+  abbrev before_one : KvState
+  before_one = pair old.root (joined old.number) old.primary old.rollback
+
+  -- what the call leaves, by how the two are joined afterwards
+  answers_by : (next : Joining)
+      → ((above below after : StoreState) → old.primary.known.state ≡ Some above → old.rollback.known.state ≡ Some below → both next new.primary.known.state new.rollback.known.state ≡ Some after
+      → LeadsTo (rules_of old) (joined old.number above below) call after (kind_of call.reply))
+      → Answers secure_rules before_one (pair old.root next new.primary new.rollback) call
+  answers_by next leads = record {
+    does = record {
+      keeps = keeps_both old.root old.primary new.primary old.rollback new.rollback (joined old.number) next run.above run.below;
+      cause = run.cause (joined old.number) next;
+      steady = λ steady. unless_and new.primary.known.steady new.rollback.known.steady (kind_of call.reply)
+          (run.steady (first_of old.primary.known.steady old.rollback.known.steady steady) (second_of old.primary.known.steady old.rollback.known.steady steady));
+      leads = λ before is after later.
+          let told = told_both (joined old.number) old.primary.known.state old.rollback.known.state before is in
+          subst (λ (b : StoreState). LeadsTo (rules_of old) b call after (kind_of call.reply)) (sym told.joined)
+          (leads told.above told.below after told.above_told told.below_told later);
+      log = λ before is log log_is. absurd (false≢true (ap is_some log_is));
+      cuts = λ tells before is.
+          let told = told_both (joined old.number) old.primary.known.state old.rollback.known.state before is in
+          subst (λ (b : StoreState). TellsOnlyBoth old new b (step (rules_of old) b call.who call.operation).state) (sym told.joined)
+          (run.cuts (first_of old.primary.crash.tells_moments old.rollback.crash.tells_moments tells) (second_of old.primary.crash.tells_moments old.rollback.crash.tells_moments tells)
+          told.above told.below (runs told.above told.above_told) (runs_too told.below told.below_told));
+    };
+    may_end = run.may_end;
+  }
+
+  -- a call in which no write failed
+  pub ended_answers : (call.reply ≡ Refused error.WriteFault → ⊥) → Answers secure_rules before_one (pair old.root (joined new.number) new.primary new.rollback) call
+  ended_answers no_fault = answers_by (joined new.number) leads where
+    leads : (above below after : StoreState) → old.primary.known.state ≡ Some above → old.rollback.known.state ≡ Some below
+        → both (joined new.number) new.primary.known.state new.rollback.known.state ≡ Some after → LeadsTo (rules_of old) (joined old.number above below) call after (kind_of call.reply)
+    leads above below after told told_too later = elim (run.ends above below (runs above told) (runs_too below told_too)) [
+      | inl stopped ↦ absurd (no_fault stopped.error)
+      | inr ended ↦
+          let there = told_both (joined new.number) new.primary.known.state new.rollback.known.state after later in
+          let same : after ≡ ended.after =
+          there.joined ∙ ap₂ (joined new.number) (same_told new.primary.known.state ended.both.above there.above ended.both.primary.told there.above_told)
+          (same_told new.rollback.known.state ended.both.below there.below ended.both.rollback.told there.below_told) ∙ sym ended.both.one in
+          subst (λ (a : StoreState). LeadsTo (rules_of old) (joined old.number above below) call a (kind_of call.reply)) (sym same) ended.leads
+    ]
+
+-- ---- a call in which a write failed
+
+doubted_told : (s : KvState) (state : StoreState) (who : ℕ) (operation : Operation) → s.known.state ≡ Some state
+    → doubted s who operation ≡ failed_write (secure_rules s.known.constants) state who operation
+doubted_told s state who operation told =
+    ap (λ (o : Option StoreState). failed_write (secure_rules s.known.constants) (unwrap_or o (fresh_state empty empty 0)) who operation) told
+
+back : (takes : Bool) (n : ℕ) → number_given_back takes (number_taken takes n) ≡ n
+back true n = omega arith
+back false n = refl
+
+before_back : (rules : Rules) (state : StoreState) (who : ℕ) (operation : Operation) → state.doubt ≡ None → before_doubt rules (failed_write rules state who operation) ≡ state
+before_back rules state who operation running = λ i. record state { next_vector = back (rules.takes_number operation) state.next_vector i; doubt = sym running i }
+
+cuts_back : (rules : Rules) (state : StoreState) (who : ℕ) (operation : Operation) → state.doubt ≡ None
+    → cuts rules (failed_write rules state who operation) who operation ≡ three_cuts rules state who operation
+unfolding three_cuts
+cuts_back rules state who operation running = ap (λ (s : StoreState). three_cuts rules s who operation) (before_back rules state who operation running)
+
+module _ (old new : Parts) (who : ℕ) (operation : Operation) (run : HasRun old new (answered who operation (Refused error.WriteFault)))
+    (runs : ((state : StoreState) → old.primary.known.state ≡ Some state → IsIdle old.above old.primary state))
+    (runs_too : ((state : StoreState) → old.rollback.known.state ≡ Some state → IsIdle old.below old.rollback state))
+    (noted : StoreState) (noted_is : noted ≡ doubted (pair old.root (joined old.number) old.primary old.rollback) who operation) where
+  abbrev fault : Answered
+  fault = answered who operation (Refused error.WriteFault)
+
+  noted_told : (above below : StoreState) → old.primary.known.state ≡ Some above → old.rollback.known.state ≡ Some below
+      → noted ≡ failed_write (rules_of old) (joined old.number above below) who operation
+  noted_told above below told told_too =
+      noted_is ∙ doubted_told (pair old.root (joined old.number) old.primary old.rollback) (joined old.number above below) who operation (ap₂ (both (joined old.number)) told told_too)
+
+  -- after a failed write both can't run
+  not_ended : (above below : StoreState) → HasEnded old new (joined old.number above below) fault → ⊥
+  not_ended above below ended =
+      let none : ended.after.doubt ≡ None = ap (λ (s : StoreState). s.doubt) ended.both.one in
+      let some : is_some ended.after.doubt ≡ true = ap (λ (o : Outcome). is_some o.state.doubt) ended.leads.2 in
+      false≢true (sym (ap is_some none) ∙ some)
+
+  stopped_at : (above below : StoreState) → old.primary.known.state ≡ Some above → old.rollback.known.state ≡ Some below → HasStopped old new (joined old.number above below) fault
+  stopped_at above below told told_too = elim (run.ends above below (runs above told) (runs_too below told_too)) [
+    | inl stopped ↦ stopped
+    | inr ended ↦ absurd (not_ended above below ended)
+  ]
+
+  pub fault_answers : Answers secure_rules (pair old.root (joined old.number) old.primary old.rollback) (pair old.root (λ a b. noted) new.primary new.rollback) fault
+  fault_answers = answers_by old new fault run runs runs_too (λ a b. noted) leads where
+    leads : (above below after : StoreState) → old.primary.known.state ≡ Some above → old.rollback.known.state ≡ Some below
+        → both (λ a b. noted) new.primary.known.state new.rollback.known.state ≡ Some after → LeadsTo (rules_of old) (joined old.number above below) fault after FailedWrite
+    leads above below after told told_too later =
+        let there = told_both (λ a b. noted) new.primary.known.state new.rollback.known.state after later in (
+          refl,
+          (stopped_at above below told told_too).fails,
+          ap (λ (s : StoreState). record { state = s; reply = Refused error.WriteFault }) (there.joined ∙ noted_told above below told told_too),
+        )
+
+  cut_in : (above below : StoreState) → noted ≡ failed_write (rules_of old) (joined old.number above below) who operation → (maps : Maps)
+      → Contains (cuts (rules_of old) (joined old.number above below) who operation) maps → IsCutIn (pair_constants old.root old.primary.known.constants old.rollback.known.constants) noted maps
+  cut_in above below is maps found =
+      subst (λ (s : StoreState). IsCutIn (pair_constants old.root old.primary.known.constants old.rollback.known.constants) s maps) (sym is)
+      (subst (λ (l : List Maps). Contains l maps)
+      (cuts_are (rules_of old) (joined old.number above below) who operation refl ∙ sym (cuts_back (rules_of old) (joined old.number above below) who operation refl)) found)
+
+  pub fault_stops : new.root ≡ old.root → ∥ IsStopped old.root new.primary new.rollback noted ∥₁
+  fault_stops same_root = ∣ record {
+    in_doubt = ap (λ (s : StoreState). is_some s.doubt) noted_is;
+    cut = λ above later below later_too maps stands.
+        let told = some_of old.primary.known.state (sym run.above.tells_state ∙ ap is_some later) in
+        let told_too = some_of old.rollback.known.state (sym run.below.tells_state ∙ ap is_some later_too) in
+        let at = stopped_at told.0 told_too.0 told.1 told_too.1 in
+        let found = at.cut maps (record {
+          beside = stands.beside;
+          beside_rollback = stands.beside_rollback;
+          primary_stands = stands.primary_stands;
+          rollback_stands = stands.rollback_stands;
+        }) in
+        subst (λ (c : Constants). IsCutIn c noted maps) (ap₂ (pair_constants old.root) (sym run.above.constants) (sym run.below.constants))
+        (cut_in told.0 told_too.0 (noted_told told.0 told_too.0 told.1 told_too.1) maps found);
+  } ∣₁
+
+-- what holds unless a write failed, of a refusal that is no failed write
+unless_given : (P : Type 0) (e : KvError) → (e ≡ error.WriteFault → ⊥) → UnlessFailedWrite (kind_of (Refused e)) P → P
+unless_given P error.NotFound other p = p
+unless_given P error.InvalidKey other p = p
+unless_given P error.InvalidFlags other p = p
+unless_given P error.InvalidSize other p = p
+unless_given P error.WriteProtected other p = p
+unless_given P (error.MediaFull need room) other p = p
+unless_given P error.TooManyIterators other p = p
+unless_given P error.NoIterator other p = p
+unless_given P error.SetOpen other p = p
+unless_given P error.NoSet other p = p
+unless_given P (error.Busy owner) other p = p
+unless_given P error.Stopped other p = p
+unless_given P error.ReadFault other p = p
+unless_given P error.WriteFault other p = absurd (other refl)
+unless_given P (error.Corrupt stored computed) other p = p
+unless_given P error.AuthFailed other p = p
+unless_given P error.RollbackFailed other p = p
+unless_given P error.IvSpent other p = p
+unless_given P error.Memory other p = p
+
+unlike_done : Done ≡ Refused error.WriteFault → ⊥
+unlike_done is = absurd (cc)
+
+error_of : Reply → KvError
+error_of (Refused e) = e
+error_of reply = error.NotFound
+
+unlike_refusal : (e : KvError) → (e ≡ error.WriteFault → ⊥) → Refused e ≡ Refused error.WriteFault → ⊥
+unfolding error_of
+unlike_refusal e other is = other (ap error_of is)
+
+-- ---- the answers of a store whose call ran
+
+module _ (stopped : Option Noted) (running : is_none stopped ≡ true) (root : List ℕ) (number : ℕ) (above below : Constants → Rules) (u r u' r' : KvState)
+    (plain : IsPlainWhile (is_none stopped) above u) (plain_too : IsPlainWhile (is_none stopped) below r) (who : ℕ) (operation : Operation) where
+  abbrev parts_old : Parts
+  parts_old = parts root number above u below r
+
+  runs_above : (state : StoreState) → u.known.state ≡ Some state → IsIdle above u state
+  runs_above state told = idle_told (is_none stopped) plain running state told
+
+  runs_below : (state : StoreState) → r.known.state ≡ Some state → IsIdle below r state
+  runs_below state told = idle_told (is_none stopped) plain_too running state told
+
+  pub ran_answers : (later : ℕ) (reply : Reply) → HasRun parts_old (parts root later above u' below r') (answered who operation reply)
+      → (reply ≡ Refused error.WriteFault → ⊥)
+      → Answers secure_rules (pair root (joining_of number (noted_in stopped)) u r) (pair root (joining_of later (noted_in stopped)) u' r') (answered who operation reply)
+  ran_answers later reply run no_fault =
+      running_answers stopped running root number later u r u' r' (answered who operation reply)
+      (ended_answers parts_old (parts root later above u' below r') (answered who operation reply) run runs_above runs_below no_fault)
+
+  noted_at : (noted : StoreState) → noted ≡ doubted (pair root (joining_of number (noted_in stopped)) u r) who operation → noted ≡ doubted (pair root (joined number) u r) who operation
+  noted_at noted is = is ∙ same stopped running where
+    same : (s : Option Noted) → is_none s ≡ true → doubted (pair root (joining_of number (noted_in s)) u r) who operation ≡ doubted (pair root (joined number) u r) who operation
+    same None none = refl
+    same (Some n) none = absurd (false≢true none)
+
+  pub stopped_by : (e : KvError) → e ≡ error.WriteFault → HasRun parts_old (parts root number above u' below r') (answered who operation (Refused e)) → (later : ℕ) (note : Noted)
+      → note.state ≡ doubted (pair root (joining_of number (noted_in stopped)) u r) who operation
+      → Answers secure_rules (pair root (joining_of number (noted_in stopped)) u r) (pair root (joining_of later (noted_in (Some note))) u' r') (answered who operation (Refused e))
+  stopped_by e is run later note noted_is =
+      let at = subst (λ (f : KvError). HasRun parts_old (parts root number above u' below r') (answered who operation (Refused f))) is run in
+      subst (λ (f : KvError). Answers secure_rules (pair root (joining_of number (noted_in stopped)) u r) (pair root (λ a b. note.state) u' r') (answered who operation (Refused f))) (sym is)
+      (running_first stopped running
+      (fault_answers parts_old (parts root number above u' below r') who operation at runs_above runs_below note.state (noted_at note.state noted_is))) where
+        running_first : (s : Option Noted) → is_none s ≡ true
+            → Answers secure_rules (pair root (joined number) u r) (pair root (λ a b. note.state) u' r') (answered who operation (Refused error.WriteFault))
+            → Answers secure_rules (pair root (joining_of number (noted_in s)) u r) (pair root (λ a b. note.state) u' r') (answered who operation (Refused error.WriteFault))
+        running_first None none answers = answers
+        running_first (Some n) none answers = absurd (false≢true none)
+
+  pub stops_by : (e : KvError) → e ≡ error.WriteFault → HasRun parts_old (parts root number above u' below r') (answered who operation (Refused e)) → (note : Noted)
+      → note.state ≡ doubted (pair root (joining_of number (noted_in stopped)) u r) who operation
+      → ∥ WhereStopped root (noted_in (Some note)) u' r' ∥₁
+  stops_by e is run note noted_is =
+      fault_stops parts_old (parts root number above u' below r') who operation
+      (subst (λ (f : KvError). HasRun parts_old (parts root number above u' below r') (answered who operation (Refused f))) is run)
+      runs_above runs_below note.state (noted_at note.state noted_is) refl
+
+  -- ---- by how the call ended
+
+  abbrev joined_then : ℕ → KvState
+  joined_then later = pair root (joining_of later (noted_in stopped)) u' r'
+
+  pub done_answers : (later : ℕ) → HasRun parts_old (parts root later above u' below r') (answered who operation Done)
+      → Answers secure_rules (pair root (joining_of number (noted_in stopped)) u r) (joined_then later) (answered who operation Done)
+  done_answers later run = ran_answers later Done run unlike_done
+
+  pub refusal_answers : (e : KvError) → (e ≡ error.WriteFault → ⊥) → HasRun parts_old (parts root number above u' below r') (answered who operation (Refused e))
+      → Answers secure_rules (pair root (joining_of number (noted_in stopped)) u r) (joined_then number) (answered who operation (Refused e))
+  refusal_answers e other run = ran_answers number (Refused e) run (unlike_refusal e other)
+
+  pub done_above : (later : ℕ) → HasRun parts_old (parts root later above u' below r') (answered who operation Done) → IsPlainWhile (is_none stopped) above u'
+  done_above later run = while_idle (is_none stopped) plain running run.above.tells_state run.idle.0
+
+  pub done_below : (later : ℕ) → HasRun parts_old (parts root later above u' below r') (answered who operation Done) → IsPlainWhile (is_none stopped) below r'
+  done_below later run = while_idle (is_none stopped) plain_too running run.below.tells_state run.idle.1
+
+  still_both : (e : KvError) → (e ≡ error.WriteFault → ⊥) → HasRun parts_old (parts root number above u' below r') (answered who operation (Refused e))
+      → StaysIdle above u u' × StaysIdle below r r'
+  still_both e other run = unless_given (StaysIdle above u u' × StaysIdle below r r') e other run.idle
+
+  pub refusal_above : (e : KvError) → (e ≡ error.WriteFault → ⊥) → HasRun parts_old (parts root number above u' below r') (answered who operation (Refused e)) → IsPlainWhile (is_none stopped) above u'
+  refusal_above e other run = while_idle (is_none stopped) plain running run.above.tells_state (still_both e other run).0
+
+  pub refusal_below : (e : KvError) → (e ≡ error.WriteFault → ⊥) → HasRun parts_old (parts root number above u' below r') (answered who operation (Refused e)) → IsPlainWhile (is_none stopped) below r'
+  refusal_below e other run = while_idle (is_none stopped) plain_too running run.below.tells_state (still_both e other run).1

@@ -1,0 +1,7 @@
+use Rattle.secure_store.specs.Doubts.{noted_in}
+use Rattle.secure_store.proofs.ArmingLemmas.{armed_above}
+use Rattle.secure_store.proofs.store.SecureStore.arm_primary.Goals as goal
+
+pub invariant_of-self-clause-in_doubt : goal.invariant_of-self-clause-in_doubt
+invariant_of-self-clause-in_doubt g c =
+    armed_above c.args.self.now.root _ _ _ (noted_in c.args.self.now.stopped) c.args.pattern c.arm.result c.arm.ensures c.args.self.now.in_doubt

@@ -1,0 +1,9 @@
+-- What a store is asked to do, as an operation.
+use Rattle.kv_model.specs.Operations as operation
+use Rattle.kv_model.specs.Operations.{Operation}
+use Rattle.secure_store.specs.declared.asking.Asking.{Asking}
+use Rattle.secure_store.specs.declared.asking.Asking.TheVariants.{Remove, Reset}
+
+abbrev pub operation_asked : Asking → Operation
+operation_asked (Remove key) = operation.Remove key.now
+operation_asked Reset = operation.Reset

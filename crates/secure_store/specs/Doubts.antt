@@ -1,0 +1,44 @@
+-- What a secure store tells once a write failed: the state in which the call in doubt began, with that call.
+use Rattle.std.specs.Prelude.{◌≡◌, ℕ, true, List, Option, Some, None, is_some, unwrap_or, MatchOption, Contains}
+use Rattle.std.specs.Option.{ForSome, IfSome}
+use Rattle.std.specs.FinMap.{empty}
+use Rattle.kv_model.specs.Constants.{Constants}
+use Rattle.kv_model.specs.StoreState.{Doubt, Maps, StoreState, fresh_state}
+use Rattle.kv_model.specs.Operations.{Operation}
+use Rattle.kv_model.specs.Rules.{cuts, failed_write}
+use Rattle.kv_model.specs.Kv.{KvState}
+use Rattle.secure_store.specs.declared.noted.Noted.{Noted}
+use Rattle.secure_store.specs.Pair.{Joining, PairStands, pair_constants}
+use Rattle.secure_store.specs.SecureStep.{secure_rules}
+use Rattle.secure_store.specs.Store.{joined}
+
+-- the state of a store in which a write of this call fails
+abbrev pub doubted : KvState → ℕ → Operation → StoreState
+doubted s who operation =
+    failed_write (secure_rules s.known.constants) (unwrap_or s.known.state (fresh_state empty empty 0)) who operation
+
+-- what is noted of a store that was stopped
+abbrev pub noted_in : Option Noted → Option StoreState
+noted_in None = None
+noted_in (Some noted) = Some noted.state
+
+-- the state of the two stores as one: of a store that was stopped what was noted
+abbrev pub joining_of : ℕ → Option StoreState → Joining
+joining_of next_vector None = joined next_vector
+joining_of next_vector (Some noted) = λ primary rollback. noted
+
+-- the maps of both stores are those that a cut in the call in doubt may leave
+abbrev pub IsCutIn : Constants → StoreState → Maps → Type 0
+IsCutIn constants noted maps =
+    MatchOption noted.doubt ⊥ (λ (d : Doubt). Contains (cuts (secure_rules constants) noted d.who d.operation) maps)
+
+-- Of a store that was stopped a call is in doubt, and its two stores, where they tell their states, mount to what a cut
+-- in that call may leave.
+pub record IsStopped (root : List ℕ) (primary rollback : KvState) (noted : StoreState) : Type 0 where
+  pub in_doubt : is_some noted.doubt ≡ true
+  pub cut : ForSome primary.known.state (λ (above : StoreState). ForSome rollback.known.state (λ (below : StoreState).
+      (maps : Maps) → PairStands root (joined 0) primary rollback maps
+      → IsCutIn (pair_constants root primary.known.constants rollback.known.constants) noted maps))
+
+abbrev pub WhereStopped : List ℕ → Option StoreState → KvState → KvState → Type 0
+WhereStopped root noted primary rollback = IfSome noted (IsStopped root primary rollback)

@@ -1,0 +1,55 @@
+// The calls of a secure store that write.
+ghost use Rattle.kv_model.specs.Given.{done_or};
+ghost use Rattle.kv_model.specs.Kv.{Answers, answered};
+ghost use Rattle.kv_model.specs.Operations.{Remove, Reset};
+ghost use Rattle.secure_store.specs.SecureState.{state_in};
+ghost use Rattle.secure_store.specs.SecureStep.{secure_rules};
+
+use crate::asking::Asking;
+use crate::doubt::in_doubt;
+use crate::store::SecureStore;
+use crate::writing::{remove_both, reset_both};
+use kv_model::{Kv, KvError};
+
+impl<U: Kv, R: Kv> SecureStore<U, R> {
+    /// Takes a key away from each store that has it: prepared in both, then done in the primary
+    /// first. It takes no memory.
+    pub fn remove(&mut self, who: u8, key: &[u8]) -> Result<(), KvError>
+        ensures { Answers secure_rules (state_in self.old) (state_in self.new)
+            (answered who (Remove key.now) (done_or result)) }
+    {
+        if self.stopped.is_some() {
+            return Err(KvError::Stopped);
+        }
+        let note = in_doubt(self, who, Asking::Remove { key });
+        match remove_both(&mut self.primary, &mut self.rollback, who, key) {
+            Ok(()) => Ok(()),
+            Err(refusal) => {
+                if refusal == KvError::WriteFault {
+                    self.stopped = Some(note);
+                }
+                Err(refusal)
+            }
+        }
+    }
+
+    /// Takes all keys away, in the primary store first. It takes no memory.
+    pub fn reset(&mut self, who: u8) -> Result<(), KvError>
+        ensures { Answers secure_rules (state_in self.old) (state_in self.new)
+            (answered who Reset (done_or result)) }
+    {
+        if self.stopped.is_some() {
+            return Err(KvError::Stopped);
+        }
+        let note = in_doubt(self, who, Asking::Reset);
+        match reset_both(&mut self.primary, &mut self.rollback, who) {
+            Ok(()) => Ok(()),
+            Err(refusal) => {
+                if refusal == KvError::WriteFault {
+                    self.stopped = Some(note);
+                }
+                Err(refusal)
+            }
+        }
+    }
+}
