@@ -16,7 +16,7 @@ use Rattle.kv_model.specs.Kv.{Answers, Kind, KvState, LeadsTo, TellsOnly, answer
 use Rattle.kv_model.specs.Checks.{Check, first_refusal, may_fail_reading}
 use Rattle.secure_store.specs.Pair.{pair, pair_constants}
 use Rattle.secure_store.specs.SecureStep.{secure_rules}
-use Rattle.secure_store.specs.declared.noted.Noted.{Noted}
+use Rattle.store_note.specs.declared.noted.Noted.{Noted}
 use Rattle.secure_store.specs.Doubts.{joining_of, noted_in}
 use Rattle.secure_store.specs.Store.{IsPlainStore, IsPlainWhile, joined}
 use Rattle.secure_store.proofs.PairLemmas.{carries_above, cause_all, first_of, keeps_both, read_none, same_told, second_of, told_both, unless_both}

@@ -15,7 +15,7 @@ use Rattle.kv_model.specs.Operations.{Operation}
 use Rattle.kv_model.specs.Checks.{first_refusal}
 use Rattle.kv_model.specs.Rules.{Outcome, Rules, before_doubt, cuts, failed_write, number_given_back, number_taken, refused_or, refuses, step}
 use Rattle.kv_model.specs.Kv.{Answered, Answers, Kind, KvState, LeadsTo, UnlessFailedWrite, answered, kind_of, Ruled, FailedRead, FailedWrite, Mismatched, Wanted}
-use Rattle.secure_store.specs.declared.noted.Noted.{Noted}
+use Rattle.store_note.specs.declared.noted.Noted.{Noted}
 use Rattle.secure_store.specs.Doubts.{IsCutIn, IsStopped, WhereStopped, doubted, joining_of, noted_in}
 use Rattle.secure_store.specs.Pair.{Joining, both, pair, pair_constants}
 use Rattle.secure_store.specs.Running.{HasEnded, HasRun, HasStopped, IsIdle, Parts, StaysIdle, TellsOnlyBoth, parts, rules_of}

@@ -7,7 +7,7 @@ use Rattle.kv_model.specs.StoreState.{Doubt, Maps, StoreState, fresh_state}
 use Rattle.kv_model.specs.Operations.{Operation}
 use Rattle.kv_model.specs.Rules.{cuts, failed_write}
 use Rattle.kv_model.specs.Kv.{KvState}
-use Rattle.secure_store.specs.declared.noted.Noted.{Noted}
+use Rattle.store_note.specs.declared.noted.Noted.{Noted}
 use Rattle.secure_store.specs.Pair.{Joining, PairStands, pair_constants}
 use Rattle.secure_store.specs.SecureStep.{secure_rules}
 use Rattle.secure_store.specs.Store.{joined}

@@ -6,9 +6,9 @@ ghost use Rattle.secure_store.specs.Doubts.{doubted};
 ghost use Rattle.secure_store.specs.SecureState.{state_in};
 
 use crate::asking::Asking;
-use crate::noted::{Noted, Notes};
 use crate::store::SecureStore;
 use kv_model::Kv;
+use store_note::{Noted, Notes};
 
 /// A call that a store is about to make.
 #[derive(Drop)]

@@ -10,7 +10,6 @@ mod doubt;
 mod iterating;
 pub mod laws;
 mod limits;
-mod noted;
 mod opening;
 mod reading;
 mod reads;

@@ -4,8 +4,8 @@ ghost use Rattle.secure_store.specs.Doubts.{WhereStopped, noted_in};
 ghost use Rattle.secure_store.specs.Store.{IsPlainWhile};
 ghost use Rattle.secure_store.specs.Facts.{plain_prop};
 
-use crate::noted::Noted;
 use kv_model::Kv;
+use store_note::Noted;
 
 /// A store over two others. Values stand in the primary store as sealed records, authenticated and
 /// where asked enciphered; of keys that are write-once or protected from replay the rollback store
