@@ -65,7 +65,7 @@ module _ {old : LogView} (lawful : IsLawful old.device) (ready : IsReady old) (i
 
   module _ (es : List Entry) (after : FlaggedMap → FlaggedMap) (fewer : length es ≤ length old.log.table.entries)
       (live : (image : List ℕ) → old.device.image ≡ Some image → AreLiveEntries old.device.geometry.prog old.log.hash_bits image old.log.end (keys_in old.device.geometry (area_in old.device.geometry old.log) image)
-          (after (map_in old.device.geometry old.log image)) es)
+      (after (map_in old.device.geometry old.log image)) es)
       (less : (image : List ℕ) → old.device.image ≡ Some image → used old.device.geometry.prog (after (map_in old.device.geometry old.log image)) ≤ used old.device.geometry.prog (map_in old.device.geometry old.log image)) where
     pub fill_refused : (result : Result ℕ KvError) → HasFilled old device spare es result → IfErr result (IsCopyRefusal old.device device)
     fill_refused result fill = copy_refused old.device device (FillsArea old.device.geometry (number_of (other old.device.geometry old.log))) (copying old.device.geometry old.log es) (first_place old.device.geometry (other old.device.geometry old.log))

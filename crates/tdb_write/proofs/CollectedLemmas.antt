@@ -161,6 +161,7 @@ module _ (v : LogView) (ready : IsReady v) (size : ℕ) (image : List ℕ) (told
     where
       is_le : (a b : ℕ) → nat_le a b ≡ true → a ≤ b
       is_le a b is = grind (arith, nat_tests)
+
       not_less : (a b : ℕ) → b ≤ a → nat_lt a b ≡ false
       not_less a b le = grind (arith, nat_tests)
 
@@ -173,6 +174,7 @@ module _ (v : LogView) (ready : IsReady v) (size : ℕ) (image : List ℕ) (told
     where
       is_gt : (a b : ℕ) → nat_le a b ≡ false → b < a
       is_gt a b is = grind (arith, nat_tests)
+
       less : (a b : ℕ) → a < b → nat_lt a b ≡ true
       less a b lt = grind (arith, nat_tests)
 
@@ -193,6 +195,7 @@ has_room v ready size clean room = record {
   where
     list_is : (a b : List ℕ) → Some a ≡ Some b → a ≡ b
     list_is a b same = cc
+
     no_collection : (clean less : Bool) → clean ≡ true → less ≡ false → (not clean || less) ≡ false
     no_collection true less is none = none
     no_collection false less is none = absurd (cc (is))
@@ -217,6 +220,7 @@ makes_room old new ready size why changes = record {
     collection false less is = refl
     collection true false (inl is) = absurd (cc (is))
     collection true false (inr is) = absurd (cc (is))
+
     by_why : {A B C : Type 0} → A ⊎ B → (B → C) → A ⊎ C
     by_why (inl a) f = inl a
     by_why (inr b) f = inr (f b)

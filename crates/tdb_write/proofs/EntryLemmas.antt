@@ -108,7 +108,7 @@ module _ (prog bits : ℕ) (image : List ℕ) (end : ℕ) (keys : KeyMap) (m : F
       (λ more. ⊎_elim
       (λ here. absurd (other (sym found.is ∙ ap (key_at keys es) (omega (arith, here, more)))))
       (λ behind. let back : found.at - 1 + 1 ≡ found.at = omega (arith, behind) in
-          record { at = found.at - 1; inside = omega (arith, behind, found.inside, long); is = key_behind (found.at - 1) (omega (arith, behind)) ∙ ap (key_at keys es) back ∙ found.is })
+      record { at = found.at - 1; inside = omega (arith, behind, found.inside, long); is = key_behind (found.at - 1) (omega (arith, behind)) ∙ ap (key_at keys es) back ∙ found.is })
       (cases_lt found.at (at + 1)))
       (cases_lt found.at at)
 

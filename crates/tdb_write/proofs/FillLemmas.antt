@@ -125,11 +125,11 @@ module _ (g : Geometry) (image : List ℕ) (log : LogPart) (safe : IsSafe g log)
   pub apart_area : (log.end + (end_of (area_in g log) - log.end) ≤ (area_of g (1 - log.active)).base) ⊎ ((area_of g (1 - log.active)).base + area_size g ≤ log.end)
   apart_area = ⊎_elim
       (λ zero_is. let here : log.active * area_size g ≡ 0 = ap (base_of g) zero_is ∙ zero_base g in
-          let there : (1 - log.active) * area_size g ≡ area_size g = ap (base_of g) (other log.active 1 (omega (arith, zero_is))) ∙ one_base g in
-          inl (omega (arith, here, there, safe.end.inside.to)))
+      let there : (1 - log.active) * area_size g ≡ area_size g = ap (base_of g) (other log.active 1 (omega (arith, zero_is))) ∙ one_base g in
+      inl (omega (arith, here, there, safe.end.inside.to)))
       (λ one_is. let here : log.active * area_size g ≡ area_size g = ap (base_of g) one_is ∙ one_base g in
-          let there : (1 - log.active) * area_size g ≡ 0 = ap (base_of g) (other log.active 0 (omega (arith, one_is))) ∙ zero_base g in
-          inr (omega (arith, here, there, safe.end.inside.from)))
+      let there : (1 - log.active) * area_size g ≡ 0 = ap (base_of g) (other log.active 0 (omega (arith, one_is))) ∙ zero_base g in
+      inr (omega (arith, here, there, safe.end.inside.from)))
       (small_number log.active safe.active)
     where
       other : (a k : ℕ) → 1 - a ≡ k → 1 - a ≡ k

@@ -53,7 +53,14 @@ pub(crate) fn copy_live<F: Flash>(log: &mut MountedLog<F>) -> Result<u32, KvErro
 {
     let from = log.area();
     let to = other_area(log);
-    copy_all(&mut log.flash, &from, &to, &log.table, &mut log.spare, &mut log.work)
+    copy_all(
+        &mut log.flash,
+        &from,
+        &to,
+        &log.table,
+        &mut log.spare,
+        &mut log.work,
+    )
 }
 
 /// Writes the master record of the next version before copies that end at `end`, and so makes them
@@ -102,7 +109,13 @@ pub fn copy_without<F: Flash>(log: &mut MountedLog<F>, at: u32) -> Result<u32, K
     let from = log.area();
     let to = other_area(log);
     area_collect::copy_without(
-        &mut log.flash, &from, &to, &log.table, &mut log.spare, at, &mut log.work,
+        &mut log.flash,
+        &from,
+        &to,
+        &log.table,
+        &mut log.spare,
+        at,
+        &mut log.work,
     )
 }
 
