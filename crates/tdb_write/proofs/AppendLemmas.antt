@@ -1,16 +1,15 @@
 -- A log with one record more at its end.
-use Rattle.std.proofs.Common.{◌≡◌, ◌⊎◌, ℕ, ◌+◌, ◌-◌, ◌<◌, ◌≤◌, Bool, true, false, List, [], ◌∷◌, ◌++◌, length, inl, inr, ⊎_elim, refl, sym, ◌∙◌, ap, subst, arith}
-use Rattle.std.specs.Prelude.{◌==◌, ◌||◌, ◌↔◌, IsTrue, Option, Some, slice_index}
-use Rattle.std.specs.FinMap as map
-use Rattle.std.specs.Option.{ForSome, unwrap_or}
+use Rattle.std.proofs.Common.{◌≡◌, ℕ, ◌+◌, ◌-◌, ◌<◌, ◌≤◌, Bool, true, false, List, [], ◌∷◌, ◌++◌, length, inl, inr, ⊎_elim, refl, sym, ◌∙◌, ap, subst, arith}
+use Rattle.std.specs.Prelude.{◌==◌, ◌||◌, IsTrue, Option, Some, slice_index}
+use Rattle.std.specs.Option.{unwrap_or}
 use Rattle.std.proofs.lemmas.Bool.{cases_lt}
-use Rattle.base_core.specs.Units.{IsMultipleOf, up}
+use Rattle.base_core.specs.Units.{up}
 use Rattle.base_core.specs.Sizes.{record_size}
 use Rattle.base_core.proofs.UnitLemmas.{IsMultipleOf-add, up-ge, up-multiple}
 use Rattle.flash_core.specs.declared.geometry.Geometry.{Geometry}
 use Rattle.flash_core.specs.Images.{IsErased, Torn, put}
 use Rattle.flash_core.specs.Runs.{Ending, Done, WriteFailed, RunsBy}
-use Rattle.flash_core.specs.Sizes.{IsValid, size_of}
+use Rattle.flash_core.specs.Sizes.{size_of}
 use Rattle.flash_core.specs.State.{DeviceCall, FlashState, IsLawful}
 use Rattle.flash_core.proofs.GeometryLaws.{prog_positive}
 use Rattle.flash_core.proofs.ImageLaws.{IsErased-Torn, Torn-put}
@@ -24,7 +23,7 @@ use Rattle.kv_model.specs.Write.{Write, applied, map_of}
 use Rattle.kv_model.proofs.WritesLemmas.{map_of-append}
 use Rattle.record_core.specs.CutMoments.{CutStrictly, MayAppend, MountsToOne, with_record}
 use Rattle.record_core.specs.Header.{IsHeader}
-use Rattle.record_core.specs.Log.{AreAllRecords, AreRecords, IsRecordAt, extent, spelling_of}
+use Rattle.record_core.specs.Log.{AreAllRecords, extent, spelling_of}
 use Rattle.record_core.specs.Mounts.{ActiveRecords, Holds}
 use Rattle.record_core.specs.Written.{AppendsRecord}
 use Rattle.record_core.proofs.CutLemmas.{holds_more}
@@ -49,11 +48,11 @@ use Rattle.tdb_mount.specs.Room.{AreIn}
 use Rattle.tdb_mount.proofs.PlaceLemmas.{table_this, tells_before}
 use Rattle.tdb_mount.proofs.TableLemmas.{AreIn-changed, length-changed, length-changed_old}
 use Rattle.tdb_read.specs.Reads.{IsFound, IsLocated, map_in}
-use Rattle.tdb_read.specs.Views.{IsLogOf, IsReady, IsSafe, LogPart, LogView, area_in, records_in}
+use Rattle.tdb_read.specs.Views.{IsLogOf, IsReady, IsSafe, LogPart, area_in, records_in}
 use Rattle.tdb_read.proofs.RecordLemmas.{records_are}
 use Rattle.tdb_read.proofs.TableLemmas.{all_records, told_table}
 use Rattle.tdb_write.specs.Changes.{Changes, IsReserved, LeavesOneOf}
-use Rattle.tdb_write.specs.Writing.{IsAppended, IsAtEndOf, IsWriting}
+use Rattle.tdb_write.specs.Writing.{IsAppended, IsWriting}
 use Rattle.tdb_write.proofs.FeedLemmas.{view}
 use Rattle.tdb_write.proofs.StayLemmas.{KeysStay, contents, place_stays}
 

@@ -1,6 +1,6 @@
 -- A set is begun at the end of a log.
-use Rattle.std.proofs.Common.{◌≡◌, ℕ, ◌+◌, ◌-◌, ◌<◌, ◌≤◌, true, List, [], length, refl, sym, ◌∙◌, ap, subst, arith}
-use Rattle.std.specs.Prelude.{IsTrue, Option, Some}
+use Rattle.std.proofs.Common.{◌≡◌, ℕ, ◌+◌, ◌-◌, ◌<◌, ◌≤◌, List, [], length, refl, sym, ◌∙◌, subst, arith}
+use Rattle.std.specs.Prelude.{IsTrue, Option}
 use Rattle.std.specs.Option.{ForSome}
 use Rattle.base_core.specs.Sizes.{record_size}
 use Rattle.flash_core.specs.declared.geometry.Geometry.{Geometry}
@@ -14,7 +14,7 @@ use Rattle.inc_set.specs.declared.open_set.OpenSet.{OpenSet as Writer}
 use Rattle.inc_set.specs.Sets.{Holds, opened}
 use Rattle.ram_table.specs.declared.table.Place.{Place}
 use Rattle.tdb_read.specs.Reads.{IsFound, IsLocated}
-use Rattle.tdb_read.specs.Views.{HasOnlyRead, IsLogOf, IsReady, IsSafe, LogPart, LogView, area_in}
+use Rattle.tdb_read.specs.Views.{HasOnlyRead, IsReady, LogPart, LogView, area_in}
 use Rattle.tdb_write.specs.Changes.{KeepsPlaces}
 use Rattle.tdb_write.specs.Writing.{FitsBehind, IsWriting}
 use Rattle.tdb_write.proofs.FeedLemmas.{number_of_two, view}

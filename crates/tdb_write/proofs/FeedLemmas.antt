@@ -1,22 +1,20 @@
 -- A set is fed more bytes: the log's map stays.
-use Rattle.std.proofs.Common.{◌≡◌, ◌⊎◌, ℕ, zero, suc, ◌+◌, ◌-◌, ◌<◌, ◌≤◌, Bool, true, List, ◌++◌, length, drop, inl, inr, refl, sym, ◌∙◌, ap, subst, arith}
+use Rattle.std.proofs.Common.{◌≡◌, ◌⊎◌, ℕ, zero, suc, ◌+◌, ◌-◌, ◌<◌, ◌≤◌, Bool, List, ◌++◌, length, inl, inr, refl, sym, ◌∙◌, ap, subst, arith}
 use Rattle.std.specs.Prelude.{◌↔◌, IsTrue, Option, Some, None}
-use Rattle.std.specs.Option.{ForSome}
 use Rattle.std.proofs.lemmas.List.{length-append, length-drop}
 use Rattle.base_core.specs.Units.{up}
 use Rattle.base_core.proofs.UnitLemmas.{up-ge}
 use Rattle.flash_core.specs.declared.geometry.Geometry.{Geometry}
 use Rattle.flash_core.specs.Images.{IsErased, Torn, put}
 use Rattle.flash_core.specs.Runs.{Ending, Done, WriteFailed, RunsBy}
-use Rattle.flash_core.specs.Sizes.{IsValid, size_of}
+use Rattle.flash_core.specs.Sizes.{size_of}
 use Rattle.flash_core.specs.State.{DeviceCall, FlashState, IsLawful}
 use Rattle.flash_core.proofs.GeometryLaws.{prog_positive}
 use Rattle.flash_core.proofs.ImageLaws.{IsErased-Torn, Torn-put, Torn-widen}
 use Rattle.flash_core.proofs.KeptLaws.{told_before}
 use Rattle.flash_core.proofs.MomentLaws.{Within-widen}
 use Rattle.flash_core.proofs.RunLaws.{runs_weakened}
-use Rattle.kv_model.specs.FlaggedMap.{FlaggedMap}
-use Rattle.kv_model.specs.Write.{Write, map_of}
+use Rattle.kv_model.specs.Write.{map_of}
 use Rattle.record_core.specs.CutMoments.{CutStrictly, MountsToOne}
 use Rattle.record_core.specs.Finishing.{InPayload, IsBegun}
 use Rattle.record_core.specs.Mounts.{Holds, Mounts}
@@ -31,12 +29,10 @@ use Rattle.inc_set.specs.Programs.{Programs}
 use Rattle.inc_set.specs.Sets.{Holds as HoldsBytes, done_size, new_units, payload_place, set_size, with_bytes}
 use Rattle.inc_set.specs.Units.{programmed, programmed_size}
 use Rattle.inc_set.proofs.SetLemmas.{length-programmed, programmed-most, set_fits}
-use Rattle.ram_table.specs.declared.table.Place.{Place}
 use Rattle.tdb_read.specs.Reads.{IsLocated, map_in}
-use Rattle.tdb_read.specs.States.{log_in}
 use Rattle.tdb_read.specs.Views.{IsLogOf, IsReady, IsSafe, LogPart, LogView, area_in, records_in}
 use Rattle.tdb_write.specs.Changes.{Changes, KeepsPlaces, LeavesOneOf, unchanged}
-use Rattle.tdb_write.specs.Writing.{IsAtEndOf, IsFed, IsWriting, IsWritingOf, is_unprogrammed}
+use Rattle.tdb_write.specs.Writing.{IsAtEndOf, IsFed, IsWriting, is_unprogrammed}
 use Rattle.tdb_write.proofs.StayLemmas.{contents, located_still, log_stays, records_stay, with_tail}
 use Rattle.tdb_write.proofs.TailLemmas.{tail_of_set}
 

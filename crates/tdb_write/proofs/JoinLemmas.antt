@@ -1,6 +1,6 @@
 -- Two calls that write, one after the other.
-use Rattle.std.proofs.Common.{◌≡◌, ◌⊎◌, ℕ, List, inl, inr, ⊎_elim, sym, ◌∙◌, ap, subst}
-use Rattle.std.specs.Prelude.{Option, Result, Ok, Err, IsErrAnd, IfErr}
+use Rattle.std.proofs.Common.{◌≡◌, ℕ, List, inl, ⊎_elim, sym, ◌∙◌, subst}
+use Rattle.std.specs.Prelude.{Option, Result, Ok, Err, IsErrAnd}
 use Rattle.flash_core.specs.declared.geometry.Geometry.{Geometry}
 use Rattle.flash_core.specs.Runs.{Ending, Done, WriteFailed, RunsBy}
 use Rattle.flash_core.specs.State.{DeviceCall}
@@ -11,7 +11,6 @@ use Rattle.kv_model.specs.declared.error.KvError.{KvError}
 use Rattle.kv_model.specs.declared.error.KvError.TheVariants.{WriteFault}
 use Rattle.record_core.specs.CutMoments.{CutStrictly, MountsToOne}
 use Rattle.record_core.specs.Endings.{kv_ended}
-use Rattle.record_core.specs.Mounts.{Mounts}
 use Rattle.record_core.proofs.RenewalCuts.{cut_weakened}
 use Rattle.tdb_read.specs.Reads.{map_in}
 use Rattle.tdb_read.specs.Views.{LogView}

@@ -1,9 +1,8 @@
 -- More room in the tables changes nothing of a log.
-use Rattle.std.proofs.Common.{◌≡◌, ℕ, ◌+◌, ◌≤◌, List, length, refl, sym, ◌∙◌, ap, subst, arith}
+use Rattle.std.proofs.Common.{◌≡◌, length, sym, ap, subst, arith}
 use Rattle.flash_core.specs.State.{FlashState}
 use Rattle.area_log.specs.Areas.{first_place}
 use Rattle.area_log.specs.Listing.{listed}
-use Rattle.ram_table.specs.declared.table.Entry.{Entry}
 use Rattle.ram_table.specs.Table.{KeepsRoom, TableState}
 use Rattle.tdb_mount.specs.Index.{IsTable, places_of}
 use Rattle.tdb_mount.specs.Room.{AreIn}

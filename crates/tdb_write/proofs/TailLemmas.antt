@@ -1,8 +1,7 @@
 -- Behind the end of a log all is erased exactly where no unit of the set that is written there is programmed.
-use Rattle.std.proofs.Common.{◌≡◌, ◌⊎◌, ℕ, zero, suc, ◌+◌, ◌-◌, ◌*◌, ◌/◌, ◌%◌, ◌<◌, ◌≤◌, Bool, true, false, List, [], ◌∷◌, ◌++◌, length, take, inl, inr, ⊎_elim, refl, sym, ◌∙◌, ap, subst, arith}
-use Rattle.std.specs.Prelude.{◌==◌, ◌↔◌, ◌&&◌, ◌||◌, not, nat_le, nat_lt, IsTrue, Option, Some, get_or}
+use Rattle.std.proofs.Common.{◌≡◌, ℕ, zero, suc, ◌+◌, ◌-◌, ◌*◌, ◌/◌, ◌%◌, ◌<◌, ◌≤◌, Bool, true, false, List, [], ◌∷◌, ◌++◌, length, ⊎_elim, refl, sym, ◌∙◌, ap, arith}
+use Rattle.std.specs.Prelude.{◌==◌, ◌↔◌, ◌&&◌, not, nat_le, nat_lt, IsTrue, Option, Some, get_or}
 use Rattle.std.specs.List.{list_all, list_any}
-use Rattle.std.specs.Option.{ForSome}
 use Rattle.std.specs.Str.{bytes_eq}
 use Rattle.std.proofs.lemmas.Bool.{cases_lt, leb-true, ltb-true}
 use Rattle.std.proofs.lemmas.Bool.Decides.{nat_tests}
@@ -12,13 +11,13 @@ use mathlib.Core.Bool.{false≢true}
 use Rattle.base_core.specs.Units.{up}
 use Rattle.base_core.proofs.UnitLemmas.{up-ge}
 use Rattle.flash_core.specs.declared.geometry.Geometry.{Geometry}
-use Rattle.flash_core.specs.Images.{IsErased, part}
+use Rattle.flash_core.specs.Images.{IsErased}
 use Rattle.flash_core.proofs.GeometryLaws.{prog_positive}
 use Rattle.flash_core.proofs.ImageLaws.{get_or-part}
 use Rattle.kv_model.specs.Keys.{is_key, is_key_byte, is_prefix, master_key, reserved_bytes}
 use Rattle.inc_set.specs.declared.open_set.OpenSet.{OpenSet as Writer}
 use Rattle.inc_set.specs.Sets.{Holds, done_size, payload_place, set_size}
-use Rattle.inc_set.specs.Units.{programmed, programmed_size, rest_of, whole_size, whole_units}
+use Rattle.inc_set.specs.Units.{programmed, programmed_size, rest_of, whole_units}
 use Rattle.inc_set.proofs.UnitLemmas.{rest_of-small, whole_and_rest}
 use Rattle.tdb_write.specs.Writing.{is_unprogrammed}
 

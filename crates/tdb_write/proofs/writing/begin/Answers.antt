@@ -1,6 +1,6 @@
-use Rattle.std.proofs.Common.{◌≡◌, ◌∙◌, ℕ, List, [], length, drop, take, ap, subst, sym}
+use Rattle.std.proofs.Common.{◌∙◌, ℕ, List, [], length, drop, ap, subst, sym}
 use Rattle.std.proofs.lemmas.List.{take_at}
-use Rattle.tdb_read.specs.Views.{IsReady, LogView, view_of}
+use Rattle.tdb_read.specs.Views.{IsReady, view_of}
 use Rattle.tdb_write.specs.Changes.{KeepsPlaces}
 use Rattle.tdb_write.specs.Writing.{IsWriting}
 use Rattle.tdb_write.proofs.BeginLemmas.{begun_writing, unit_places, unit_ready}

@@ -1,7 +1,7 @@
 use Rattle.std.proofs.Common.{◌≡◌, ◌∙◌, ℕ, ◌+◌, List, ◌++◌, length, drop, take, ap, refl, subst, sym}
 use Rattle.std.specs.Prelude.{Bool}
 use Rattle.std.proofs.lemmas.List.{take_at}
-use Rattle.flash_core.specs.Runs.{Ending, Done, WriteFailed}
+use Rattle.flash_core.specs.Runs.{Ending, Done}
 use Rattle.kv_model.specs.declared.error.KvError.{KvError}
 use Rattle.record_core.specs.Endings.{kv_ending}
 use Rattle.inc_set.specs.declared.open_set.OpenSet.{OpenSet as Writer}

@@ -1,7 +1,7 @@
-use Rattle.std.proofs.Common.{◌≡◌, ◌∙◌, ℕ, ◌+◌, List, ◌++◌, length, drop, take, ap, refl, subst, sym}
-use Rattle.std.specs.Prelude.{Bool, ◌==◌}
+use Rattle.std.proofs.Common.{◌≡◌, ◌∙◌, ℕ, List, ◌++◌, length, drop, take, ap, refl, subst, sym}
+use Rattle.std.specs.Prelude.{◌==◌}
 use Rattle.std.proofs.lemmas.List.{take_at}
-use Rattle.flash_core.specs.Runs.{Ending, Done, WriteFailed}
+use Rattle.flash_core.specs.Runs.{Ending, Done}
 use Rattle.kv_model.specs.Crc.{key_hash}
 use Rattle.kv_model.specs.Flags.{remove_flags}
 use Rattle.kv_model.specs.Write.{applied}
