@@ -206,8 +206,7 @@ module _ (prog : ℕ) (positive : 1 ≤ prog) (bits : ℕ) (image : List ℕ) (e
       let rest : Each (f ∷ es) = live_rest e (f ∷ es) each in
       let first = first_is e (live_first e (f ∷ es) each) (record_at prog image e.offset) refl in
       let second = first_is f (live_first f es rest) (record_at prog image f.offset) refl in
-      let below : is_below bits (unwrap_or (map.get keys e.offset) []) (unwrap_or (map.get keys f.offset) []) ≡ true = order 0 1 (omega arith) (omega arith) in
-      (
+      let below : is_below bits (unwrap_or (map.get keys e.offset) []) (unwrap_or (map.get keys f.offset) []) ≡ true = order 0 1 (omega arith) (omega arith) in (
         (λ i. is_below bits (first.3 i) (second.3 i)) ∙ below,
         ascend (f ∷ es) rest (rest_order e (f ∷ es) order),
       )

@@ -52,7 +52,7 @@ module _ {old : LogView} (lawful : IsLawful old.device) (ready : IsReady old) {d
     (done : HasCopied old.device device (copying old.device.geometry old.log es) (record { end = end; entries = spare.entries }) (λ image. image))
     (fewer : length es ≤ length old.log.table.entries)
     (live : (image : List ℕ) → old.device.image ≡ Some image → AreLiveEntries old.device.geometry.prog old.log.hash_bits image old.log.end (keys_in old.device.geometry (area_in old.device.geometry old.log) image)
-        (after (map_in old.device.geometry old.log image)) es)
+    (after (map_in old.device.geometry old.log image)) es)
     (less : (image : List ℕ) → old.device.image ≡ Some image → used old.device.geometry.prog (after (map_in old.device.geometry old.log image)) ≤ used old.device.geometry.prog (map_in old.device.geometry old.log image)) where
   g : Geometry
   g = old.device.geometry

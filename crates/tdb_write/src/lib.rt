@@ -1,8 +1,8 @@
 //! The log of a plain store as it is written: records at its end, in one piece or in many, and its
 //! collection.
 //!
-//! Each function takes a mounted log and leaves one. What a power cut at any moment leaves mounts to
-//! the map before the call or to that after it, as far as chance goes.
+//! Each function takes a mounted log and leaves one. What a power cut leaves at any moment mounts
+//! to the map before the call or to that after it, as far as chance goes.
 #![tactic(auto)]
 
 mod collect;

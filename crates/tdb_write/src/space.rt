@@ -32,11 +32,7 @@ fn size_at<F: Flash>(log: &mut MountedLog<F>, at: u32) -> Result<u32, KvError>
     let area = log.area();
     let place = log.table.entry(at).1;
     let header = read_header_at(&mut log.flash, place, area.base + area.size)?;
-    Ok(size_of_record(
-        prog,
-        u32::from(header.key_size),
-        header.value_size,
-    ))
+    Ok(size_of_record(prog, u32::from(header.key_size), header.value_size))
 }
 
 // What the records of the table's entries take, by their headers.

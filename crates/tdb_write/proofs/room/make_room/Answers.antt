@@ -30,5 +30,5 @@ returns-else-fits_behind-2-clause-refusal g c =
     inr (
       (λ same. omega (arith, same)),
       (left_short (view_of g.F.Flash.state c.args.log.now) (view_of g.F.Flash.state c.collect_log.new.log) c.args.size c.requires.space c.in_ok-collect_log.ensures.changes
-      (sym c.fits_behind-2.ensures ∙ c.if-fits_behind-2.false)).1,
+          (sym c.fits_behind-2.ensures ∙ c.if-fits_behind-2.false)).1,
     )
