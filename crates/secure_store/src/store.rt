@@ -20,5 +20,6 @@ pub struct SecureStore<U: Kv, R: Kv> {
     pub(crate) stopped: Option<Noted>,
     ghost above: { IsPlainWhile (is_none stopped) U.rules_by (U.state primary) } by { plain_prop },
     ghost below: { IsPlainWhile (is_none stopped) R.rules_by (R.state rollback) } by { plain_prop },
-    ghost in_doubt: { ∥ WhereStopped root (noted_in stopped) (U.state primary) (R.state rollback) ∥₁ },
+    ghost in_doubt: { ∥ WhereStopped root (noted_in stopped) (U.state primary)
+        (R.state rollback) ∥₁ },
 }

@@ -138,3 +138,61 @@ fn parts_are_read(rt: HostRuntime) -> Result<(), Fail> {
     }
     Ok(())
 }
+
+// The answers to a remove of a key over these two stores, or to a reset, and then to a read.
+fn emptied(alloc: Global, key: &[u8], record: &[u8], tag: &[u8], is_reset: bool) -> [u8; 2] {
+    let primary = filled(alloc, KEY, record);
+    let rollback = filled(alloc, KEY, tag);
+    let mut store = SecureStore::new(primary, rollback, &ROOT, 1);
+    let done = if is_reset {
+        store.reset(1)
+    } else {
+        store.remove(1, key)
+    };
+    let first = match done {
+        Ok(()) => 0,
+        Err(refusal) => refusal.number(),
+    };
+    let mut buf = [7; 20];
+    let second = match store.get(KEY, 0, &mut buf) {
+        Ok(_) => 0,
+        Err(refusal) => refusal.number(),
+    };
+    let (_, _) = store.into_parts();
+    [first, second]
+}
+
+// A remove takes a key out of both stores, also where one alone has it. It asks for no record.
+#[test]
+fn a_removed_key_is_in_neither_store(rt: HostRuntime) -> Result<(), Fail> {
+    let absent: &[u8] = b"";
+    let cases: [(&[u8], &[u8], &[u8], [u8; 2]); 7] = [
+        (KEY, &SECOND, &SECOND_TAG, [0, 1]),
+        (KEY, &PLAIN, absent, [0, 1]),
+        (KEY, absent, &SECOND_TAG, [0, 1]),
+        (KEY, &FIRST_TAG, &SECOND_TAG, [0, 1]),
+        (KEY, absent, absent, [1, 1]),
+        (b"a/b", &SECOND, &SECOND_TAG, [2, 0]),
+        (b"cert2.pem", &SECOND, &SECOND_TAG, [1, 0]),
+    ];
+    for (key, record, tag, wanted) in cases.iter() {
+        let alloc = rt.alloc();
+        assert_eq!(rt; emptied(alloc, key, record, tag, false), *wanted);
+    }
+    Ok(())
+}
+
+#[test]
+fn a_reset_leaves_no_key(rt: HostRuntime) -> Result<(), Fail> {
+    let absent: &[u8] = b"";
+    let cases: [(&[u8], &[u8]); 3] = [
+        (&SECOND, &SECOND_TAG),
+        (&PLAIN, absent),
+        (absent, &SECOND_TAG),
+    ];
+    for (record, tag) in cases.iter() {
+        let alloc = rt.alloc();
+        assert_eq!(rt; emptied(alloc, KEY, record, tag, true), [0, 1]);
+    }
+    Ok(())
+}

@@ -18,4 +18,6 @@ pub use space::check_room;
 pub use writing::{begin, feed, seal};
 
 #[cfg(test)]
+mod life_tests;
+#[cfg(test)]
 mod tests;

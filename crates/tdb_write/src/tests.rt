@@ -47,7 +47,7 @@ fn fresh_log(rt: &impl Abort, alloc: Global) -> Result<MountedLog<RecordFlash>, 
 }
 
 // Writes a record whose value comes in two pieces, the first of so many bytes.
-fn write<F: Flash>(
+pub(crate) fn write<F: Flash>(
     rt: &impl Abort,
     log: &mut MountedLog<F>,
     key: &[u8],
