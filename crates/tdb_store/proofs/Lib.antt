@@ -1,6 +1,8 @@
+pub mod FactLemmas
 pub mod BegunLemmas
 pub mod CallLemmas
 pub mod StoreLemmas
+pub mod RestoredLemmas
 pub mod WriteLemmas
 pub mod AddLemmas
 pub mod FeedLemmas

@@ -2,11 +2,14 @@
 #![tactic(auto)]
 
 mod active;
+mod calls;
 mod feeding;
 mod mounting;
 mod notes;
 mod plain;
 mod resetting;
+mod store;
 
 pub(crate) use active::{ActiveSet, Begun};
 pub(crate) use plain::PlainStore;
+pub use store::TdbStore;
