@@ -3,6 +3,7 @@
 
 mod active;
 mod feeding;
+mod finishing;
 mod mounting;
 mod notes;
 mod plain;
