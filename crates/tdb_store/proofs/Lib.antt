@@ -8,3 +8,5 @@ pub mod AddLemmas
 pub mod FeedLemmas
 pub mod MountedLemmas
 pub mod ResetLemmas
+pub mod PartLemmas
+pub mod FinishLemmas

@@ -7,6 +7,8 @@ use Rattle.base_core.specs.Counts.{Rose}
 use Rattle.flash_core.specs.declared.geometry.Geometry.{Geometry}
 use Rattle.flash_core.specs.Moments.{Adds, FailedInside}
 use Rattle.flash_core.specs.Runs.{Done, Ending, IfFailed, IsCause as IsCauseOf, ReadFailed, Refused, UnlessShort, WriteFailed}
+use Rattle.record_core.specs.Endings.{kv_ending}
+use Rattle.tdb_read.proofs.GetLemmas.{refusal_since}
 use Rattle.flash_core.specs.State.{DeviceCall, FlashState, after_of, before_of}
 use Rattle.flash_core.proofs.GeometryLaws.{prog_positive}
 use Rattle.flash_core.proofs.KeptLaws.{OnlyReads-refl, told_after, told_before}
@@ -274,3 +276,47 @@ module _ (old mid new : LogView) (ready : IsReady old) (read : HasOnlyRead old m
           (has_map was.0 told maps stand.stands.rollback
           (one_more (map_at was.0) (after (map_at was.0)) (plain_step constants (before set was.0) who operation).state.primary (map_at was.0) maps.primary (step was.0 told) which)));
     }
+
+  -- ---- a read that failed, or a record that did not match
+
+  log_stays : (is : Ending) → ending ≡ is → ((P Q : Type 0) → ByEnding is P Q → Q) → (image left : List ℕ) → old.device.image ≡ Some image → new.device.image ≡ Some left
+      → log_in new.device.geometry new.log left ≡ log_in g old.log image
+  log_stays is ends second image left told now =
+      let same : log_in mid.device.geometry new.log left ≡ log_in mid.device.geometry mid.log image =
+      second _ _ (subst (λ (e : Ending). ByEnding e (Step (log_in mid.device.geometry mid.log image) (log_in mid.device.geometry new.log left)) (log_in mid.device.geometry new.log left ≡ log_in mid.device.geometry mid.log image)) ends
+      (changes.log_is image (read.device.image ∙ told) left now)) in
+      (λ i. log_in (changes.runs.kept.geometry i) new.log left) ∙ same ∙ (λ i. log_in (read.device.geometry i) (read.log i) image)
+
+  state_stays : (set : Option OpenSet) (image left : List ℕ) → log_in new.device.geometry new.log left ≡ log_in g old.log image
+      → state_in new.device.geometry new.log set left ≡ before set image
+  state_stays set image left same = λ i. record { primary = map_of (same i).records; rollback = map.empty; open_set = set; iterators = iterators i; next_vector = 1; doubt = None }
+
+  unread : (set : Option OpenSet) (who : ℕ) (operation : Operation) (e : KvError) → ending ≡ kv_ending e → IsReadRefusal mid.device new.device e → IsTrue (reads operation)
+      → ((image : List ℕ) → old.device.image ≡ Some image → IsTrue (may_fail_reading (plain_checks constants (before set image) who operation)))
+      → IsStepOf set who operation → Answers plain_rules (kv_state old set) (kv_state new set) (answered who operation (reply.Refused e))
+  unread set who operation ReadFault ends refusal may comes step =
+      let why = refusal_since new.device ReadFault read.device refusal in
+      answers set (state_in new.device.geometry new.log set) (MapsStand new.device.geometry new.device) (answered who operation (reply.Refused ReadFault)) FailedRead refl may
+      (why.0, never_true old.device.steady why.1)
+      (λ steady. subst (λ (e : Ending). UnlessShort e (IsTrue new.device.steady)) ends (changes.runs.steady (read.device.steady steady)))
+      (λ image left told now. (refl, comes image told, λ i. record { state = state_stays set image left (log_stays ReadFailed ends (λ P Q q. q) image left told now) i; reply = reply.Refused ReadFault }))
+      (λ image left told now. log_stays ReadFailed ends (λ P Q q. q) image left told now)
+      step
+  unread set who operation (Corrupt stored computed) ends refusal may comes step =
+      let why = refusal_since new.device (Corrupt stored computed) read.device refusal in
+      answers set (state_in new.device.geometry new.log set) (MapsStand new.device.geometry new.device) (answered who operation (reply.Refused (Corrupt stored computed))) Mismatched refl may
+      (why.0, ap (option_map (before set)) why.1)
+      (λ steady. subst (λ (e : Ending). UnlessShort e (IsTrue new.device.steady)) ends (changes.runs.steady (read.device.steady steady)))
+      (λ image left told now. absurd (no_image image (sym why.1 ∙ told)))
+      (λ image left told now. log_stays Refused ends (λ P Q q. q) image left told now)
+      step
+    where
+      no_image : (image : List ℕ) → None ≡ Some image → ⊥
+      no_image image same = cc
+  unread set who operation e ends refusal may comes step = absurd refusal
+
+  -- a call that read as it wrote, and whose read failed
+  pub read_failed : (set : Option OpenSet) (who : ℕ) (operation : Operation) (e : KvError) → ending ≡ kv_ending e → IsReadRefusal mid.device new.device e → IsTrue (reads operation)
+      → ((image : List ℕ) → old.device.image ≡ Some image → IsTrue (may_fail_reading (plain_checks constants (before set image) who operation)))
+      → IsStepOf set who operation → Answers plain_rules (kv_state old set) (kv_state new set) (answered who operation (reply.Refused e))
+  read_failed set who operation e ends refusal may comes step = unread set who operation e ends refusal may comes step

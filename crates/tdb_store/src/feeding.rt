@@ -59,7 +59,7 @@ fn feed_begun<F: Flash>(
 
 impl<F: Flash> PlainStore<F> {
     // How many bytes an active set still takes.
-    fn bytes_left(&self) -> u32
+    pub(crate) fn bytes_left(&self) -> u32
         requires runs { IsRunning (view_of F.state self.now.log) self.now.active }
         ensures { ForSome (set_in self.now.active) (λ (set : SetOf).
             length set.bytes + result ≡ set.size) }

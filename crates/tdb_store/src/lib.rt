@@ -4,6 +4,7 @@
 mod active;
 mod calls;
 mod feeding;
+mod finishing;
 mod mounting;
 mod notes;
 mod plain;

@@ -1,7 +1,7 @@
 // What is noted for proofs alone: the bytes that a set was fed, and the state of a store that a
 // failed write stopped, with the call in doubt.
 ghost use Rattle.std.specs.Prelude.{◌≡◌, ◌++◌};
-ghost use Rattle.kv_model.specs.Operations.{Add, Reset};
+ghost use Rattle.kv_model.specs.Operations.{Add, Finish, Reset};
 ghost use Rattle.tdb_store.specs.Stores.{in_doubt, state_told};
 
 use crate::PlainStore;
@@ -97,4 +97,22 @@ pub(crate) fn note_reset(before: Noted, who: u8) -> Noted
 {
     let call = Resetting { before, who };
     Noted::of::<Resetting, Resetting>(&call)
+}
+
+#[derive(Drop)]
+struct Finishing {
+    before: Noted,
+    who: u8,
+}
+
+impl Notes<Finishing> for Finishing {
+    ghost state = { λ call. in_doubt call.before.state call.who Finish };
+}
+
+/// A note of this state with a finish in doubt.
+pub(crate) fn note_finish(before: Noted, who: u8) -> Noted
+    ensures { result.state ≡ in_doubt before.state who Finish }
+{
+    let call = Finishing { before, who };
+    Noted::of::<Finishing, Finishing>(&call)
 }
