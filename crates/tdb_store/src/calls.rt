@@ -3,7 +3,7 @@ ghost use Rattle.std.specs.Prelude.{◌≡◌, ◌≤◌, ℕ, length, IfOk, IfE
 ghost use Rattle.flash_core.specs.Sizes.{IsValid};
 ghost use Rattle.kv_model.specs.Given.{AreZerosFrom, IsGot, done_or, facts_or, found_end, found_or, got_or, read_end};
 ghost use Rattle.kv_model.specs.Kv.{IsLawful, answered};
-ghost use Rattle.kv_model.specs.Operations.{Abort, Add, CloseIterator, Info as InfoOf, Next, OpenIterator, Part, Reset};
+ghost use Rattle.kv_model.specs.Operations.{Abort, Add, CloseIterator, Finish, Info as InfoOf, Next, OpenIterator, Part, Reset};
 ghost use Rattle.kv_model.specs.PlainStep.{plain_rules};
 ghost use Rattle.tdb_mount.specs.declared.mount.MountError.TheVariants.{BadGeometry};
 ghost use Rattle.tdb_read.specs.Mounting.{IsMounted, IsUnmounted};
@@ -132,6 +132,16 @@ impl<F: Flash> TdbStore<F> {
             (answered who (Add value.now) (done_or result)) }
     {
         self.store.set_add(who, value)
+    }
+
+    /// Puts the caller's incremental set in the place of the old value, or completes a remove that
+    /// was begun.
+    #[tactic(auto, using(crate::proofs::RestoredLemmas::is_kept))]
+    pub fn set_finish(&mut self, who: u8) -> Result<(), KvError>
+        ensures { CallsBy F.state self.old.store self.new.store
+            (answered who Finish (done_or result)) }
+    {
+        self.store.set_finish(who)
     }
 
     /// Ends the caller's incremental set without effect.

@@ -14,3 +14,6 @@ mod store;
 pub(crate) use active::{ActiveSet, Begun};
 pub(crate) use plain::PlainStore;
 pub use store::TdbStore;
+
+#[cfg(test)]
+mod tests;
