@@ -1,12 +1,1 @@
-pub mod FactLemmas
-pub mod BegunLemmas
-pub mod CallLemmas
-pub mod StoreLemmas
-pub mod RestoredLemmas
-pub mod WriteLemmas
-pub mod AddLemmas
-pub mod FeedLemmas
-pub mod MountedLemmas
-pub mod ResetLemmas
-pub mod PartLemmas
-pub mod FinishLemmas
+pub mod ArmingLemmas

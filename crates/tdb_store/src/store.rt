@@ -1,8 +1,8 @@
 // The type of the plain store.
-ghost use Rattle.tdb_store.specs.Stores.{Is};
+ghost use Rattle.plain_store.specs.Stores.{Is};
 
-use crate::PlainStore;
 use flash_core::Flash;
+use plain_store::PlainStore;
 
 /// A key-value store over a flash device of two areas. It keeps where each key's last record
 /// stands in memory, and nothing else of the device.
