@@ -14,15 +14,16 @@ use Rattle.kv_model.proofs.PerformLemmas.{Keeps-trans}
 use Rattle.secure_store.specs.Going.{HasGone}
 use Rattle.secure_store.specs.Pair.{Joining, pair, pair_constants}
 use Rattle.secure_store.specs.Reading.{HasRead}
-use Rattle.secure_store.specs.Running.{HasEnded, HasRun, HasStopped, IsIdle, Parts, StaysIdle, TellsOnlyBoth, WhereIdle, parts, rules_of}
+use Rattle.secure_store.specs.Running.{HasEnded, HasRun, HasStopped, IsIdle, Parts, StaysIdle, StaysOpen, TellsOnlyBoth, WhereRun, parts, rules_of}
 use Rattle.secure_store.specs.SecureStep.{secure_rules}
+use Rattle.secure_store.specs.Shares.{NoShare, Share}
 use Rattle.secure_store.specs.Store.{joined}
 use Rattle.secure_store.proofs.PairLemmas.{carries_since, cause_all, first_of, keeps_both, second_of}
 use Rattle.secure_store.proofs.GoingLemmas.{tells_more}
-use Rattle.secure_store.proofs.RunningLemmas.{idle_by, still_of}
+use Rattle.secure_store.proofs.RunningLemmas.{open_by, runs_of}
 
 -- a clock that tells one map tells only that and another
-tells_either : {old new : Clock} (m other : FlaggedMap) → TellsOnly old new m m → TellsOnly old new m other
+pub tells_either : {old new : Clock} (m other : FlaggedMap) → TellsOnly old new m m → TellsOnly old new m other
 tells_either m other tells = record {
   moment = tells.moment;
   told = λ t map early later. elim (tells.told t map early later) [
@@ -33,7 +34,7 @@ tells_either m other tells = record {
 }
 
 -- a store that was read stands where it stood
-pub read_gone : {by : Constants → Rules} {s s' : KvState} (goal : StoreState → FlaggedMap) → HasRead s s' → HasGone by s s' (λ state. state) goal
+pub read_gone : {by : Constants → Rules} {s s' : KvState} (goal : StoreState → FlaggedMap) → HasRead s s' → HasGone NoShare by s s' (λ state. state) goal
 read_gone goal read = record {
   keeps = read.keeps;
   steady = read.steady;
@@ -42,7 +43,7 @@ read_gone goal read = record {
 }
 
 pub read_idle : {by : Constants → Rules} {s s' : KvState} {state : StoreState} → HasRead s s' → IsIdle by s state → IsIdle by s' state
-read_idle {state = state} read idle = idle_by idle (read.state ∙ idle.told) (still_of idle)
+read_idle {state = state} read idle = open_by idle (read.state ∙ idle.told) (runs_of idle)
 
 unless_always : (P : Type 0) (kind : Kind) → P → UnlessFailedWrite kind P
 unless_always P Ruled p = p
@@ -76,7 +77,7 @@ module _ (root : List ℕ) (number : ℕ) (by_above by_below : Constants → Rul
   pub run_refused : (who : ℕ) (operation : Operation) (e : KvError)
       → ((before after : Joining) → IsCause (pair root before u r).known (pair root after u' r').known (Refused e))
       → IsTrue (may_end operation (kind_of (Refused e)))
-      → WhereIdle here (λ above below. LeadsTo (rules_of here) (joined number above below) (answered who operation (Refused e)) (joined number above below) (kind_of (Refused e)))
+      → WhereRun here (λ above below. LeadsTo (rules_of here) (joined number above below) (answered who operation (Refused e)) (joined number above below) (kind_of (Refused e)))
       → HasRun here there (answered who operation (Refused e))
   run_refused who operation e cause may leads = record {
     above = one.keeps;
@@ -84,7 +85,7 @@ module _ (root : List ℕ) (number : ℕ) (by_above by_below : Constants → Rul
     cause = cause;
     may_end = may;
     steady = λ steady steady_too. unless_always ((u'.known.steady ≡ true) × (r'.known.steady ≡ true)) (kind_of (Refused e)) (one.steady steady, two.steady steady_too);
-    idle = unless_always (StaysIdle by_above u u' × StaysIdle by_below r r') (kind_of (Refused e))
+    stays = unless_always (StaysIdle by_above u u' × StaysIdle by_below r r') (kind_of (Refused e))
         ((λ state idle. (state, read_idle one idle)), (λ state idle. (state, read_idle two idle)));
     ends = λ above below idle idle_too. inr (record {
       after = joined number above below;
@@ -100,7 +101,7 @@ module _ (root : List ℕ) (number : ℕ) (by_above by_below : Constants → Rul
   same_constants : pair_constants root u'.known.constants r'.known.constants ≡ pair_constants root u.known.constants r.known.constants
   same_constants = ap₂ (pair_constants root) one.keeps.constants two.keeps.constants
 
-  stays_since : {by : Constants → Rules} {s s' t : KvState} → HasRead s s' → StaysIdle by s' t → StaysIdle by s t
+  stays_since : {later : Share} {by : Constants → Rules} {s s' t : KvState} → HasRead s s' → StaysOpen NoShare later by s' t → StaysOpen NoShare later by s t
   stays_since read stays state idle = stays state (read_idle read idle)
 
   module _ (new : Parts) (call : Answered) where
@@ -125,26 +126,30 @@ module _ (root : List ℕ) (number : ℕ) (by_above by_below : Constants → Rul
   joined_steady before steady =
       ap₂ (λ (x y : Bool). x && y) (one.steady (first_of u.known.steady r.known.steady steady)) (two.steady (second_of u.known.steady r.known.steady steady))
 
-  pub run_behind : (later : ℕ) (u'' r'' : KvState) (call : Answered) → HasRun there (parts root later by_above u'' by_below r'') call
-      → HasRun here (parts root later by_above u'' by_below r'') call
-  run_behind later u'' r'' call run = record {
+  pub run_since : (new : Parts) (call : Answered) → HasRun there new call → HasRun here new call
+  run_since new call run = record {
     above = Keeps-trans one.keeps run.above;
     below = Keeps-trans two.keeps run.below;
-    cause = λ before after. cause_all (carries_since (pair root before u r) (pair root before u' r') (pair root after u'' r'') (joined_reads before) (joined_steady before)) call.reply (run.cause before after);
+    cause = λ before after. cause_all (carries_since (pair root before u r) (pair root before u' r') (pair root after new.primary new.rollback) (joined_reads before) (joined_steady before)) call.reply (run.cause before after);
     may_end = run.may_end;
     steady = λ steady steady_too. run.steady (one.steady steady) (two.steady steady_too);
-    idle = unless_map (StaysIdle by_above u' u'' × StaysIdle by_below r' r'') (StaysIdle by_above u u'' × StaysIdle by_below r r'') (kind_of call.reply)
-        (λ stays. (stays_since one stays.0, stays_since two stays.1)) run.idle;
+    stays = unless_map (StaysOpen NoShare new.share_above by_above u' new.primary × StaysOpen NoShare new.share_below by_below r' new.rollback)
+        (StaysOpen NoShare new.share_above by_above u new.primary × StaysOpen NoShare new.share_below by_below r new.rollback) (kind_of call.reply)
+        (λ stays. (stays_since one stays.0, stays_since two stays.1)) run.stays;
     ends = λ above below idle idle_too. elim (run.ends above below (read_idle one idle) (read_idle two idle_too)) [
-      | inl stopped ↦ inl (stopped_since (parts root later by_above u'' by_below r'') call above below stopped)
-      | inr ended ↦ inr (ended_since (parts root later by_above u'' by_below r'') call above below ended)
+      | inl stopped ↦ inl (stopped_since new call above below stopped)
+      | inr ended ↦ inr (ended_since new call above below ended)
     ];
     cuts = λ tells tells_too above below idle idle_too.
         let again = run.cuts (subst IsTrue (sym one.keeps.tells_moments) tells) (subst IsTrue (sym two.keeps.tells_moments) tells_too) above below (read_idle one idle) (read_idle two idle_too) in
         let State : Constants → StoreState = λ c. (step (secure_rules c) (joined number above below) call.who call.operation).state in
-        let whole = subst (λ (c : Constants). TellsOnly u'.crash.primary u''.crash.primary above.primary (State c).primary × TellsOnly r'.crash.primary r''.crash.primary below.primary (State c).rollback)
+        let whole = subst (λ (c : Constants). TellsOnly u'.crash.primary new.primary.crash.primary above.primary (State c).primary × TellsOnly r'.crash.primary new.rollback.crash.primary below.primary (State c).rollback)
         same_constants again in
         let after = State (pair_constants root u.known.constants r.known.constants) in
         let first = tells_both above below after idle idle_too tells tells_too in
         (tells_more first.0 whole.0 (inl refl) (inr refl), tells_more first.1 whole.1 (inl refl) (inr refl));
   }
+
+  pub run_behind : (later : ℕ) (u'' r'' : KvState) (call : Answered) → HasRun there (parts root later by_above u'' by_below r'') call
+      → HasRun here (parts root later by_above u'' by_below r'') call
+  run_behind later u'' r'' call run = run_since (parts root later by_above u'' by_below r'') call run

@@ -14,15 +14,16 @@ use Rattle.kv_model.specs.PlainStep.{plain_rules}
 use Rattle.kv_model.specs.Rules.{Outcome, Rules, cuts, failed_write, step}
 use Rattle.kv_model.specs.Kv.{Answers, Clock, IsLawful, Kind, KvState, LeadsTo, TellsOnly, UnlessFailedWrite, answered, kind_of, may_end, Ruled, FailedRead, FailedWrite, Mismatched, Wanted}
 use Rattle.kv_model.proofs.PerformLemmas.{Keeps-trans}
-use Rattle.secure_store.specs.Going.{FailsAs, HasFailed, HasGone, WhereStill}
-use Rattle.secure_store.specs.Running.{IsIdle}
+use Rattle.secure_store.specs.Going.{FailsAs, HasFailed, HasGone, WhereOpen}
+use Rattle.secure_store.specs.Running.{IsOpen}
+use Rattle.secure_store.specs.Shares.{Share}
 use Rattle.secure_store.proofs.PairLemmas.{carries_since, cause_all, read_none}
 use Rattle.secure_store.proofs.ReadingLemmas.{some_of}
 
 abbrev pub IsEither : FlaggedMap → FlaggedMap → FlaggedMap → Type 0
 IsEither map one other = (map ≡ one) ⊎ (map ≡ other)
 
-abbrev as_reply : Reply → Reply
+abbrev pub as_reply : Reply → Reply
 as_reply reply = reply
 
 abbrev error_in : Reply → KvError
@@ -42,7 +43,7 @@ tells_more {a = a} {b = b} first second one two = record {
 }
 
 -- no call yet
-pub gone_none : (rules_by : Constants → Rules) (s : KvState) (goal : StoreState → FlaggedMap) → HasGone rules_by s s (λ state. state) goal
+pub gone_none : {share : Share} (rules_by : Constants → Rules) (s : KvState) (goal : StoreState → FlaggedMap) → HasGone share rules_by s s (λ state. state) goal
 gone_none rules_by s goal = record {
   keeps = (read_none s).keeps;
   steady = λ is. is;
@@ -50,36 +51,36 @@ gone_none rules_by s goal = record {
   moments = λ tells state idle. record { moment = omega arith; told = λ t map early told. inl told };
 }
 
-module _ (rules_by : Constants → Rules) (old mid new : KvState) (now after : StoreState → StoreState) (goal : StoreState → FlaggedMap) (who : ℕ) (operation : Operation)
-    (gone : HasGone rules_by old mid now goal)
-    (granted : (state : StoreState) → IsIdle rules_by old state
+module _ {share : Share} (rules_by : Constants → Rules) (old mid new : KvState) (now after : StoreState → StoreState) (goal : StoreState → FlaggedMap) (who : ℕ) (operation : Operation)
+    (gone : HasGone share rules_by old mid now goal)
+    (granted : (state : StoreState) → IsOpen share rules_by old state
     → step (plain_rules mid.known.constants) (now state) who operation ≡ record { state = after state; reply = Done })
-    (before : (state : StoreState) → IsIdle rules_by old state → IsEither (now state).primary state.primary (goal state))
-    (behind : (state : StoreState) → IsIdle rules_by old state → IsEither (after state).primary state.primary (goal state)) where
+    (before : (state : StoreState) → IsOpen share rules_by old state → IsEither (now state).primary state.primary (goal state))
+    (behind : (state : StoreState) → IsOpen share rules_by old state → IsEither (after state).primary state.primary (goal state)) where
   -- by the plain rules
-  plain_step : (state : StoreState) → IsIdle rules_by old state
+  plain_step : (state : StoreState) → IsOpen share rules_by old state
       → step (rules_by mid.known.constants) (now state) who operation ≡ record { state = after state; reply = Done }
   plain_step state idle =
       subst (λ (by : Constants → Rules). step (by mid.known.constants) (now state) who operation ≡ record { state = after state; reply = Done }) (sym idle.rules) (granted state idle)
 
-  told_mid : (state : StoreState) → IsIdle rules_by old state → mid.known.state ≡ Some (now state)
+  told_mid : (state : StoreState) → IsOpen share rules_by old state → mid.known.state ≡ Some (now state)
   told_mid state idle = gone.told state idle
 
   all_moments : (reply : Reply) → Answers rules_by mid new (answered who operation reply) → IsTrue old.crash.tells_moments
-      → WhereStill rules_by old (λ state. TellsOnly old.crash.primary new.crash.primary state.primary (goal state))
+      → WhereOpen share rules_by old (λ state. TellsOnly old.crash.primary new.crash.primary state.primary (goal state))
   all_moments reply answers tells state idle =
       let later = (answers.does.cuts (subst IsTrue (sym gone.keeps.tells_moments) tells) (now state) (told_mid state idle)).0 in
       tells_more (gone.moments tells state idle)
       (subst (λ (o : Outcome). TellsOnly mid.crash.primary new.crash.primary (now state).primary o.state.primary) (plain_step state idle) later)
       (before state idle) (behind state idle)
 
-  told_done : Answers rules_by mid new (answered who operation Done) → WhereStill rules_by old (λ state. new.known.state ≡ Some (after state))
+  told_done : Answers rules_by mid new (answered who operation Done) → WhereOpen share rules_by old (λ state. new.known.state ≡ Some (after state))
   told_done answers state idle =
       let there = some_of new.known.state (answers.does.keeps.tells_state ∙ ap is_some (told_mid state idle)) in
       let leads = answers.does.leads (now state) (told_mid state idle) there.0 there.1 in
       there.1 ∙ ap (λ (o : Outcome). Some o.state) (sym leads ∙ plain_step state idle)
 
-  pub gone_more : Answers rules_by mid new (answered who operation Done) → HasGone rules_by old new after goal
+  pub gone_more : Answers rules_by mid new (answered who operation Done) → HasGone share rules_by old new after goal
   gone_more answers = record {
     keeps = Keeps-trans gone.keeps answers.does.keeps;
     steady = λ steady. answers.does.steady (gone.steady steady);
@@ -100,7 +101,7 @@ module _ (rules_by : Constants → Rules) (old mid new : KvState) (now after : S
   fails_as rules e here stopped later Mismatched step_is leads = leads
   fails_as rules e here stopped later Wanted step_is leads = ap (λ (s : StoreState). Some s) leads
 
-  told_failed : (e : KvError) → Answers rules_by mid new (answered who operation (Refused e)) → WhereStill rules_by old (λ state.
+  told_failed : (e : KvError) → Answers rules_by mid new (answered who operation (Refused e)) → WhereOpen share rules_by old (λ state.
       FailsAs new.known.state e (now state) (failed_write (plain_rules old.known.constants) (now state) who operation) (kind_of (Refused e)))
   told_failed e answers state idle =
       let there = some_of new.known.state (answers.does.keeps.tells_state ∙ ap is_some (told_mid state idle)) in
@@ -111,7 +112,7 @@ module _ (rules_by : Constants → Rules) (old mid new : KvState) (now after : S
       (subst (λ (c : Constants). FailsAs (Some there.0) e (now state) (failed_write (plain_rules c) (now state) who operation) (kind_of (Refused e))) gone.keeps.constants as_plain)
 
   pub gone_fails : (e : KvError) → Answers rules_by mid new (answered who operation (Refused e))
-      → HasFailed rules_by old new now goal (record { who = who; operation = operation; error = e })
+      → HasFailed share rules_by old new now goal (record { who = who; operation = operation; error = e })
   gone_fails e answers = record {
     keeps = Keeps-trans gone.keeps answers.does.keeps;
     cause = cause_all (carries_since old mid new gone.keeps gone.steady) (Refused e) answers.does.cause;
@@ -121,7 +122,7 @@ module _ (rules_by : Constants → Rules) (old mid new : KvState) (now after : S
     moments = all_moments (Refused e) answers;
   }
 
-quiet_abort : (kind : Kind) → IsTrue (may_end Abort kind) → kind ≡ Ruled
+pub quiet_abort : (kind : Kind) → IsTrue (may_end Abort kind) → kind ≡ Ruled
 quiet_abort Ruled may = refl
 quiet_abort FailedRead may = absurd (false≢true may)
 quiet_abort FailedWrite may = absurd (false≢true may)
@@ -129,12 +130,12 @@ quiet_abort Mismatched may = absurd (false≢true may)
 quiet_abort Wanted may = absurd (false≢true may)
 
 -- an abort of what was begun, whatever it answers
-pub gone_ends : (rules_by : Constants → Rules) (old mid new : KvState) (now after : StoreState → StoreState) (goal : StoreState → FlaggedMap) (who : ℕ)
-    → HasGone rules_by old mid now goal
-    → ((state : StoreState) → IsIdle rules_by old state → step (plain_rules mid.known.constants) (now state) who Abort ≡ record { state = after state; reply = Done })
-    → ((state : StoreState) → IsIdle rules_by old state → IsEither (now state).primary state.primary (goal state))
-    → ((state : StoreState) → IsIdle rules_by old state → IsEither (after state).primary state.primary (goal state))
-    → (reply : Reply) → Answers rules_by mid new (answered who Abort reply) → HasGone rules_by old new after goal
+pub gone_ends : {share : Share} (rules_by : Constants → Rules) (old mid new : KvState) (now after : StoreState → StoreState) (goal : StoreState → FlaggedMap) (who : ℕ)
+    → HasGone share rules_by old mid now goal
+    → ((state : StoreState) → IsOpen share rules_by old state → step (plain_rules mid.known.constants) (now state) who Abort ≡ record { state = after state; reply = Done })
+    → ((state : StoreState) → IsOpen share rules_by old state → IsEither (now state).primary state.primary (goal state))
+    → ((state : StoreState) → IsOpen share rules_by old state → IsEither (after state).primary state.primary (goal state))
+    → (reply : Reply) → Answers rules_by mid new (answered who Abort reply) → HasGone share rules_by old new after goal
 gone_ends rules_by old mid new now after goal who gone granted before behind reply answers =
     let quiet : kind_of reply ≡ Ruled = quiet_abort (kind_of reply) answers.may_end in
     record {

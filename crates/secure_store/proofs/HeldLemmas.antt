@@ -10,29 +10,30 @@ use Rattle.kv_model.specs.declared.error.KvError.{KvError}
 use Rattle.kv_model.specs.declared.error.KvError.TheVariants as error
 use Rattle.kv_model.specs.declared.flags.Flags.{Flags}
 use Rattle.kv_model.specs.declared.call.Reply.TheVariants.{Done, Refused}
-use Rattle.kv_model.specs.Checks.{may_fail_writing}
+use Rattle.kv_model.specs.Checks.{first_refusal, may_fail_reading, may_fail_writing}
 use Rattle.kv_model.specs.Constants.{Constants}
 use Rattle.kv_model.specs.FlaggedMap.{FlaggedMap, Stored}
 use Rattle.kv_model.specs.Flags.{is_write_once}
 use Rattle.kv_model.specs.Keys.{is_key}
 use Rattle.kv_model.specs.StoreState.{StoreState}
-use Rattle.kv_model.specs.Operations.{Info, Remove}
+use Rattle.kv_model.specs.Operations.{Info, Remove, RemoveStart}
 use Rattle.kv_model.specs.PlainStep.{plain_rules}
-use Rattle.kv_model.specs.Rules.{Outcome, Rules, refuses, step}
+use Rattle.kv_model.specs.Rules.{Outcome, Rules, refused_or, refuses, step}
 use Rattle.kv_model.specs.Kv.{Answers, IsLawful, Kind, KvState, LeadsTo, answered, kind_of, may_end, Ruled, FailedRead, FailedWrite, Mismatched, Wanted}
 use Rattle.kv_model.proofs.NextKeyLemmas.{bytes_same}
 use Rattle.secure_store.specs.Going.{WhereStill}
 use Rattle.secure_store.specs.Pair.{pair_constants}
 use Rattle.secure_store.specs.Reading.{HasRead, IsUnread, TellsPlain, WhereTold}
-use Rattle.secure_store.specs.Removing.{FlagsOr, HeldAs, Lacks, MayLose, is_once}
-use Rattle.secure_store.specs.Running.{HasRun, IsIdle, Parts, WhereIdle, parts}
+use Rattle.secure_store.specs.Removing.{AtOnce, Begins, FlagsOr, HeldAs, Lacks, MayLose, Removal, is_once, removal}
+use Rattle.secure_store.specs.Running.{HasRun, IsIdle, Parts, WhereRun, parts}
 use Rattle.secure_store.specs.SecureStep.{secure_rules}
-use Rattle.secure_store.specs.Store.{joined}
+use Rattle.secure_store.specs.Shares.{NoShare}
+use Rattle.secure_store.specs.Store.{idle_own, joined}
 use Rattle.secure_store.proofs.BehindLemmas.{run_refused}
-use Rattle.secure_store.proofs.GoingLemmas.{IsEither, gone_fails, gone_more, gone_none}
+use Rattle.secure_store.proofs.GoingLemmas.{IsEither, as_reply, gone_fails, gone_more, gone_none}
 use Rattle.secure_store.proofs.PairLemmas.{carries_above, carries_below, cause_carried, read_none}
 use Rattle.secure_store.proofs.RemovingLemmas.{secure_may_read}
-use Rattle.secure_store.proofs.RunningLemmas.{AreGoals, IsStill, run_above_fails, run_below_fails, run_done, still_of}
+use Rattle.secure_store.proofs.RunningLemmas.{AreGoals, IsStill, run_above_fails, run_below_fails, run_done, runs_of}
 use Rattle.secure_store.proofs.ViewLemmas.{get_gone, get_kept}
 
 -- a map stays where it loses a key that it lacks
@@ -42,7 +43,7 @@ loses_at m key other true is lacks =
     subst (λ (k : List ℕ). get (remove m key) k ≡ get m k) (sym one) (get_gone m key ∙ sym lacks)
 loses_at m key other false is lacks = get_kept m key other (λ same. true≢false (sym ((bytes_eq-Decides other key).1 same) ∙ is))
 
-remove_lacking : (m : FlaggedMap) (key : List ℕ) → get m key ≡ None → remove m key ≡ m
+pub remove_lacking : (m : FlaggedMap) (key : List ℕ) → get m key ≡ None → remove m key ≡ m
 remove_lacking m key lacks = same_map nat_list_cmp_total bytes_same (remove m key) m (λ other. loses_at m key other (bytes_eq other key) refl lacks)
 
 module _ (key : List ℕ) (good : is_key key ≡ true) (who : ℕ) where
@@ -56,10 +57,10 @@ module _ (key : List ℕ) (good : is_key key ≡ true) (who : ℕ) where
   stays s = s.primary
 
   takes : (c : Constants) (s : StoreState) → IsStill s → MayLose key s → step (plain_rules c) s who (Remove key) ≡ record { state = taken s; reply = Done }
-  takes c s still may = simp (still.running, still.no_set, good, may.there, may.free) refl
+  takes c s still may = simp (still.running, still.holds, good, may.there, may.free) refl
 
   taken_still : (s : StoreState) → IsStill s → IsStill (taken s)
-  taken_still s still = record { running = still.running; no_set = still.no_set }
+  taken_still s still = record { running = still.running; holds = still.holds }
 
   above_removes : (c : Constants) (n : ℕ) (above below : StoreState) → MayLose key above → Lacks key below
       → step (secure_rules c) (joined n above below) who (Remove key) ≡ record { state = joined n (taken above) (taken below); reply = Done }
@@ -93,7 +94,7 @@ module _ (key : List ℕ) (good : is_key key ≡ true) (who : ℕ) where
     -- ---- the primary store alone holds the key
 
     module _ (may : WhereStill by_above u (MayLose key)) (lacks : WhereStill by_below r (Lacks key)) where
-      above_goals : WhereIdle old (AreGoals root n by_above by_below u r who (Remove key) goal stays)
+      above_goals : WhereRun old (AreGoals (parts root n by_above u by_below r) who (Remove key) goal stays)
       above_goals above below idle idle_too = (
         ap (λ (o : Outcome). o.state.primary) (above_removes constants n above below (may above idle) (lacks below idle_too)),
         ap (λ (o : Outcome). o.state.rollback) (above_removes constants n above below (may above idle) (lacks below idle_too)) ∙ remove_lacking below.primary key (lacks below idle_too),
@@ -101,25 +102,25 @@ module _ (key : List ℕ) (good : is_key key ≡ true) (who : ℕ) where
 
       pub above_taken : (u' : KvState) → Answers by_above u u' (answered who (Remove key) Done) → HasRun old (parts root n by_above u' by_below r) (answered who (Remove key) Done)
       above_taken u' answers =
-          run_done root n by_above by_below u r who (Remove key) goal stays above_goals u' r n taken (λ s. s)
-          (gone_more by_above u u u' (λ s. s) taken goal who (Remove key) (gone_none by_above u goal) (λ s idle. takes u.known.constants s (still_of idle) (may s idle))
+          run_done (parts root n by_above u by_below r) who (Remove key) goal stays above_goals (idle_own n) u' NoShare r NoShare taken (λ s. s)
+          (gone_more by_above u u u' (λ s. s) taken goal who (Remove key) (gone_none by_above u goal) (λ s idle. takes u.known.constants s (runs_of idle) (may s idle))
           (λ s idle. inl refl) (λ s idle. inr refl) answers)
-          (gone_none by_below r stays) (λ s idle. taken_still s (still_of idle)) (λ s idle. still_of idle)
+          (gone_none by_below r stays) (λ s idle. taken_still s (runs_of idle)) (λ s idle. runs_of idle)
           (λ above below idle idle_too. above_removes constants n above below (may above idle) (lacks below idle_too)
           ∙ ap (λ (s : StoreState). record { state = s; reply = Done }) (still_joined n (taken above) below (lacks below idle_too)))
 
       pub above_fails : (u' : KvState) → IsLawful by_above u' → IsLawful by_below r → (e : KvError) → Answers by_above u u' (answered who (Remove key) (Refused e))
           → HasRun old (parts root n by_above u' by_below r) (answered who (Remove key) (Refused e))
       above_fails u' lawful lawful_too e answers =
-          run_above_fails root n by_above by_below u r who (Remove key) goal stays above_goals u' r (record { who = who; operation = Remove key; error = e }) (λ kind ends. ends)
+          run_above_fails (parts root n by_above u by_below r) who (Remove key) goal stays above_goals (idle_own n) u' NoShare r NoShare (record { who = who; operation = Remove key; error = e }) (λ kind ends. ends)
           (λ reads above below idle idle_too. secure_may_read key good who constants n above below)
           (λ above below idle idle_too. above_may_write constants n above below (may above idle) (lacks below idle_too))
           lawful lawful_too (λ s. s) (λ s. s) (λ prepares above below idle idle_too. refl)
-          (gone_fails by_above u u u' (λ s. s) taken goal who (Remove key) (gone_none by_above u goal) (λ s idle. takes u.known.constants s (still_of idle) (may s idle))
+          (gone_fails by_above u u u' (λ s. s) taken goal who (Remove key) (gone_none by_above u goal) (λ s idle. takes u.known.constants s (runs_of idle) (may s idle))
           (λ s idle. inl refl) (λ s idle. inr refl) e answers)
-          (gone_none by_below r stays) (λ s idle. idle.running) (λ prepares s idle. still_of idle) (λ s idle. still_of idle)
+          (gone_none by_below r stays) (λ s idle. idle.running) (λ prepares s idle. runs_of idle) (λ s idle. runs_of idle)
           (λ above below idle idle_too x either.
-          elim (subst (λ (o : Outcome). IsEither x above.primary o.state.primary) (takes u.known.constants above (still_of idle) (may above idle)) either) [
+          elim (subst (λ (o : Outcome). IsEither x above.primary o.state.primary) (takes u.known.constants above (runs_of idle) (may above idle)) either) [
             | inl same ↦ inl (same, refl)
             | inr gone ↦ inr (inl (gone ∙ sym (above_goals above below idle idle_too).0, refl))
           ])
@@ -127,7 +128,7 @@ module _ (key : List ℕ) (good : is_key key ≡ true) (who : ℕ) where
     -- ---- the rollback store alone holds the key
 
     module _ (lacks : WhereStill by_above u (Lacks key)) (may : WhereStill by_below r (MayLose key)) where
-      below_goals : WhereIdle old (AreGoals root n by_above by_below u r who (Remove key) stays goal)
+      below_goals : WhereRun old (AreGoals (parts root n by_above u by_below r) who (Remove key) stays goal)
       below_goals above below idle idle_too = (
         ap (λ (o : Outcome). o.state.primary) (below_removes constants n above below (lacks above idle) (may below idle_too)) ∙ remove_lacking above.primary key (lacks above idle),
         ap (λ (o : Outcome). o.state.rollback) (below_removes constants n above below (lacks above idle) (may below idle_too)),
@@ -135,27 +136,27 @@ module _ (key : List ℕ) (good : is_key key ≡ true) (who : ℕ) where
 
       pub below_taken : (r' : KvState) → Answers by_below r r' (answered who (Remove key) Done) → HasRun old (parts root n by_above u by_below r') (answered who (Remove key) Done)
       below_taken r' answers =
-          run_done root n by_above by_below u r who (Remove key) stays goal below_goals u r' n (λ s. s) taken
+          run_done (parts root n by_above u by_below r) who (Remove key) stays goal below_goals (idle_own n) u NoShare r' NoShare (λ s. s) taken
           (gone_none by_above u stays)
-          (gone_more by_below r r r' (λ s. s) taken goal who (Remove key) (gone_none by_below r goal) (λ s idle. takes r.known.constants s (still_of idle) (may s idle))
+          (gone_more by_below r r r' (λ s. s) taken goal who (Remove key) (gone_none by_below r goal) (λ s idle. takes r.known.constants s (runs_of idle) (may s idle))
           (λ s idle. inl refl) (λ s idle. inr refl) answers)
-          (λ s idle. still_of idle) (λ s idle. taken_still s (still_of idle))
+          (λ s idle. runs_of idle) (λ s idle. taken_still s (runs_of idle))
           (λ above below idle idle_too. below_removes constants n above below (lacks above idle) (may below idle_too)
           ∙ ap (λ (s : StoreState). record { state = s; reply = Done }) (still_joined_above n above (taken below) (lacks above idle)))
 
       pub below_fails : (r' : KvState) → IsLawful by_above u → IsLawful by_below r' → (e : KvError) → Answers by_below r r' (answered who (Remove key) (Refused e))
           → HasRun old (parts root n by_above u by_below r') (answered who (Remove key) (Refused e))
       below_fails r' lawful lawful_too e answers =
-          run_below_fails root n by_above by_below u r who (Remove key) stays goal below_goals u r' (record { who = who; operation = Remove key; error = e }) (λ kind ends. ends)
+          run_below_fails (parts root n by_above u by_below r) who (Remove key) stays goal below_goals (idle_own n) u NoShare r' NoShare (record { who = who; operation = Remove key; error = e }) (λ kind ends. ends)
           (λ reads above below idle idle_too. secure_may_read key good who constants n above below)
           (λ above below idle idle_too. below_may_write constants n above below (lacks above idle) (may below idle_too))
           lawful lawful_too (λ s. s) (λ s. s) (λ prepares above below idle idle_too. refl)
           (gone_none by_above u stays)
-          (gone_fails by_below r r r' (λ s. s) taken goal who (Remove key) (gone_none by_below r goal) (λ s idle. takes r.known.constants s (still_of idle) (may s idle))
+          (gone_fails by_below r r r' (λ s. s) taken goal who (Remove key) (gone_none by_below r goal) (λ s idle. takes r.known.constants s (runs_of idle) (may s idle))
           (λ s idle. inl refl) (λ s idle. inr refl) e answers)
-          (λ s idle. idle.running) (λ s idle. still_of idle) (λ prepares s idle. still_of idle)
+          (λ s idle. idle.running) (λ s idle. runs_of idle) (λ prepares s idle. runs_of idle)
           (λ above below idle idle_too y either.
-          elim (subst (λ (o : Outcome). IsEither y below.primary o.state.primary) (takes r.known.constants below (still_of idle_too) (may below idle_too)) either) [
+          elim (subst (λ (o : Outcome). IsEither y below.primary o.state.primary) (takes r.known.constants below (runs_of idle_too) (may below idle_too)) either) [
             | inl same ↦ inl (refl, same)
             | inr gone ↦ inr (inr (sym (below_goals above below idle idle_too).0, gone ∙ sym (below_goals above below idle idle_too).1))
           ])
@@ -183,14 +184,37 @@ none_of_flags : (found : Option Stored) (o : Option Flags) → is_none o ≡ tru
 none_of_flags found None is holds = holds
 none_of_flags found (Some flags) is holds = absurd (false≢true is)
 
-module _ (key : List ℕ) (who : ℕ) where
-  may_remove : (kind : Kind) → IsTrue (may_end (Info []) kind) → IsTrue (may_end (Remove key) kind)
-  may_remove Ruled may = may
-  may_remove FailedRead may = may
-  may_remove FailedWrite may = absurd (false≢true may)
-  may_remove Mismatched may = may
-  may_remove Wanted may = absurd (false≢true may)
+-- a remove that begins is refused as one at once
+refused_alike : (c : Constants) (state : StoreState) (who : ℕ) (key : List ℕ) (e : KvError) (found : Option KvError)
+    → refused_or (secure_rules c) state who (Remove key) found ≡ refuses state e → refused_or (secure_rules c) state who (RemoveStart key) found ≡ refuses state e
+refused_alike c state who key e (Some f) is = is
+refused_alike c state who key e None is = let never : as_reply Done ≡ as_reply (Refused e) = ap (λ (o : Outcome). o.reply) is in absurd (cc)
 
+refused_too : (how : Removal) (c : Constants) (n : ℕ) (above below : StoreState) (who : ℕ) (key : List ℕ) (e : KvError)
+    → step (secure_rules c) (joined n above below) who (Remove key) ≡ refuses (joined n above below) e
+    → step (secure_rules c) (joined n above below) who (removal how key) ≡ refuses (joined n above below) e
+refused_too AtOnce c n above below who key e is = is
+refused_too Begins c n above below who key e is =
+    refused_alike c (joined n above below) who key e (first_refusal ((secure_rules c).checks (joined n above below) who (Remove key))) is
+
+may_read_too : (how : Removal) (c : Constants) (n : ℕ) (above below : StoreState) (who : ℕ) (key : List ℕ) → is_key key ≡ true
+    → IsTrue (may_fail_reading ((secure_rules c).checks (joined n above below) who (removal how key)))
+may_read_too AtOnce c n above below who key good = secure_may_read key good who c n above below
+may_read_too Begins c n above below who key good = secure_may_read key good who c n above below
+
+may_remove : (how : Removal) (key : List ℕ) (kind : Kind) → IsTrue (may_end (Info []) kind) → IsTrue (may_end (removal how key) kind)
+may_remove AtOnce key Ruled may = may
+may_remove AtOnce key FailedRead may = may
+may_remove AtOnce key FailedWrite may = absurd (false≢true may)
+may_remove AtOnce key Mismatched may = may
+may_remove AtOnce key Wanted may = absurd (false≢true may)
+may_remove Begins key Ruled may = may
+may_remove Begins key FailedRead may = may
+may_remove Begins key FailedWrite may = absurd (false≢true may)
+may_remove Begins key Mismatched may = may
+may_remove Begins key Wanted may = absurd (false≢true may)
+
+module _ (key : List ℕ) (who : ℕ) where
   bad_step : (c : Constants) (n : ℕ) (above below : StoreState) → is_key key ≡ false
       → step (secure_rules c) (joined n above below) who (Remove key) ≡ refuses (joined n above below) error.InvalidKey
   bad_step c n above below bad = simp bad refl
@@ -220,11 +244,11 @@ module _ (key : List ℕ) (who : ℕ) where
             simp (good, one.there, two.there, free, is) refl
       ]
 
-  unread_leads : (c : Constants) (n : ℕ) (above below : StoreState) (e : KvError) → is_key key ≡ true → e ≡ error.ReadFault
-      → LeadsTo (secure_rules c) (joined n above below) (answered who (Remove key) (Refused e)) (joined n above below) (kind_of (Refused e))
-  unread_leads c n above below e good is =
-      subst (λ (f : KvError). LeadsTo (secure_rules c) (joined n above below) (answered who (Remove key) (Refused f)) (joined n above below) (kind_of (Refused f))) (sym is)
-      (refl, secure_may_read key good who c n above below, refl)
+  unread_leads : (how : Removal) (c : Constants) (n : ℕ) (above below : StoreState) (e : KvError) → is_key key ≡ true → e ≡ error.ReadFault
+      → LeadsTo (secure_rules c) (joined n above below) (answered who (removal how key) (Refused e)) (joined n above below) (kind_of (Refused e))
+  unread_leads how c n above below e good is =
+      subst (λ (f : KvError). LeadsTo (secure_rules c) (joined n above below) (answered who (removal how key) (Refused f)) (joined n above below) (kind_of (Refused f))) (sym is)
+      (refl, may_read_too how c n above below who key good, refl)
 
   -- what a store that was read holds
   held_at : (state : StoreState) (o : Option Flags) → is_once o ≡ false → FlagsOr (get state.primary key) (Ok o) → HeldAs key o state
@@ -236,38 +260,40 @@ module _ (key : List ℕ) (who : ℕ) where
   held_as by s s' o free read holds state idle =
       held_at state o free (holds state (record { rules = idle.rules; told = sym read.state ∙ idle.told; running = idle.running }))
 
-  module _ (root : List ℕ) (n : ℕ) (by_above by_below : Constants → Rules) (u u' r r' : KvState) where
-    pub remove_bad : is_key key ≡ false → HasRun (parts root n by_above u by_below r) (parts root n by_above u by_below r) (answered who (Remove key) (Refused error.InvalidKey))
+  module _ (how : Removal) (root : List ℕ) (n : ℕ) (by_above by_below : Constants → Rules) (u u' r r' : KvState) where
+    pub remove_bad : is_key key ≡ false → HasRun (parts root n by_above u by_below r) (parts root n by_above u by_below r) (answered who (removal how key) (Refused error.InvalidKey))
     remove_bad bad =
-        run_refused root n by_above by_below u u r r (read_none u) (read_none r) who (Remove key) error.InvalidKey (λ before after. tt) refl
-        (λ above below idle idle_too. bad_step (pair_constants root u.known.constants r.known.constants) n above below bad)
+        run_refused root n by_above by_below u u r r (read_none u) (read_none r) who (removal how key) error.InvalidKey (λ before after. tt) refl
+        (λ above below idle idle_too. let c = pair_constants root u.known.constants r.known.constants in refused_too how c n above below who key error.InvalidKey (bad_step c n above below bad))
 
     pub remove_unread_above : is_key key ≡ true → HasRead u u' → (e : KvError) → IsUnread u u' e → WhereTold by_above u (λ state. FlagsOr (get state.primary key) (Err e))
-        → HasRun (parts root n by_above u by_below r) (parts root n by_above u' by_below r) (answered who (Remove key) (Refused e))
+        → HasRun (parts root n by_above u by_below r) (parts root n by_above u' by_below r) (answered who (removal how key) (Refused e))
     remove_unread_above good read e unread fails =
-        run_refused root n by_above by_below u u' r r read (read_none r) who (Remove key) e
-        (λ before after. cause_carried (carries_above root u u' r r before after (read_none r).keeps) e unread.cause) (may_remove (kind_of (Refused e)) unread.may_end)
-        (λ above below idle idle_too. unread_leads (pair_constants root u.known.constants r.known.constants) n above below e good (fails above (tells_idle idle)))
+        run_refused root n by_above by_below u u' r r read (read_none r) who (removal how key) e
+        (λ before after. cause_carried (carries_above root u u' r r before after (read_none r).keeps) e unread.cause) (may_remove how key (kind_of (Refused e)) unread.may_end)
+        (λ above below idle idle_too. unread_leads how (pair_constants root u.known.constants r.known.constants) n above below e good (fails above (tells_idle idle)))
 
     module _ (good : is_key key ≡ true) (read : HasRead u u') (read_too : HasRead r r') where
       pub remove_unread_below : (e : KvError) → IsUnread r r' e → WhereTold by_below r (λ state. FlagsOr (get state.primary key) (Err e))
-          → HasRun (parts root n by_above u by_below r) (parts root n by_above u' by_below r') (answered who (Remove key) (Refused e))
+          → HasRun (parts root n by_above u by_below r) (parts root n by_above u' by_below r') (answered who (removal how key) (Refused e))
       remove_unread_below e unread fails =
-          run_refused root n by_above by_below u u' r r' read read_too who (Remove key) e
-          (λ before after. cause_carried (carries_below root u u' r r' before after read.keeps) e unread.cause) (may_remove (kind_of (Refused e)) unread.may_end)
-          (λ above below idle idle_too. unread_leads (pair_constants root u.known.constants r.known.constants) n above below e good (fails below (tells_idle idle_too)))
+          run_refused root n by_above by_below u u' r r' read read_too who (removal how key) e
+          (λ before after. cause_carried (carries_below root u u' r r' before after read.keeps) e unread.cause) (may_remove how key (kind_of (Refused e)) unread.may_end)
+          (λ above below idle idle_too. unread_leads how (pair_constants root u.known.constants r.known.constants) n above below e good (fails below (tells_idle idle_too)))
 
       module _ (f g : Option Flags) (holds : WhereTold by_above u (λ state. FlagsOr (get state.primary key) (Ok f))) (holds_too : WhereTold by_below r (λ state. FlagsOr (get state.primary key) (Ok g))) where
         pub remove_absent : is_none f ≡ true → is_none g ≡ true
-            → HasRun (parts root n by_above u by_below r) (parts root n by_above u' by_below r') (answered who (Remove key) (Refused error.NotFound))
+            → HasRun (parts root n by_above u by_below r) (parts root n by_above u' by_below r') (answered who (removal how key) (Refused error.NotFound))
         remove_absent none none_too =
-            run_refused root n by_above by_below u u' r r' read read_too who (Remove key) error.NotFound (λ before after. tt) refl
-            (λ above below idle idle_too. absent_step (pair_constants root u.known.constants r.known.constants) n above below good
-            (none_of_flags _ f none (holds above (tells_idle idle))) (none_of_flags _ g none_too (holds_too below (tells_idle idle_too))))
+            run_refused root n by_above by_below u u' r r' read read_too who (removal how key) error.NotFound (λ before after. tt) refl
+            (λ above below idle idle_too. let c = pair_constants root u.known.constants r.known.constants in
+            refused_too how c n above below who key error.NotFound (absent_step c n above below good
+            (none_of_flags _ f none (holds above (tells_idle idle))) (none_of_flags _ g none_too (holds_too below (tells_idle idle_too)))))
 
         pub remove_protected : (is_none f && is_none g) ≡ false → (is_once f || is_once g) ≡ true
-            → HasRun (parts root n by_above u by_below r) (parts root n by_above u' by_below r') (answered who (Remove key) (Refused error.WriteProtected))
+            → HasRun (parts root n by_above u by_below r) (parts root n by_above u' by_below r') (answered who (removal how key) (Refused error.WriteProtected))
         remove_protected held once =
-            run_refused root n by_above by_below u u' r r' read read_too who (Remove key) error.WriteProtected (λ before after. tt) refl
-            (λ above below idle idle_too. protected_step (pair_constants root u.known.constants r.known.constants) n above below f g good
-            (holds above (tells_idle idle)) (holds_too below (tells_idle idle_too)) held once)
+            run_refused root n by_above by_below u u' r r' read read_too who (removal how key) error.WriteProtected (λ before after. tt) refl
+            (λ above below idle idle_too. let c = pair_constants root u.known.constants r.known.constants in
+            refused_too how c n above below who key error.WriteProtected (protected_step c n above below f g good
+            (holds above (tells_idle idle)) (holds_too below (tells_idle idle_too)) held once))

@@ -5,6 +5,8 @@ use mathlib.Core.Bool.{false≢true}
 use Rattle.kv_model.specs.declared.error.KvError.{KvError}
 use Rattle.kv_model.specs.declared.call.Reply.{Reply}
 use Rattle.kv_model.specs.Constants.{Constants}
+use Rattle.std.specs.FinMap.{get}
+use Rattle.kv_model.specs.FlaggedMap.{FlaggedMap}
 use Rattle.kv_model.specs.StoreState.{StoreState}
 use Rattle.kv_model.specs.Operations.{Operation, CloseIterator, Next, OpenIterator}
 use Rattle.kv_model.specs.PlainStep.{plain_rules}
@@ -18,7 +20,8 @@ use Rattle.secure_store.specs.Pair.{pair, pair_constants}
 use Rattle.secure_store.specs.SecureStep.{secure_rules}
 use Rattle.store_note.specs.declared.noted.Noted.{Noted}
 use Rattle.secure_store.specs.Doubts.{joining_of, noted_in}
-use Rattle.secure_store.specs.Store.{IsPlainStore, IsPlainWhile, joined}
+use Rattle.secure_store.specs.Shares.{Holds, Share, NoShare, HasSet, LacksKey}
+use Rattle.secure_store.specs.Store.{IsPlainStore, IsPlainWhile, Own, joined_by}
 use Rattle.secure_store.proofs.PairLemmas.{carries_above, cause_all, first_of, keeps_both, read_none, same_told, second_of, told_both, unless_both}
 use Rattle.secure_store.proofs.ReadingLemmas.{some_of}
 use Rattle.secure_store.proofs.SettleLemmas.{running_answers, runs_plain}
@@ -35,16 +38,16 @@ operation_by (Opens n prefix) = OpenIterator n prefix
 operation_by (Gives n) = Next n
 operation_by (Closes n) = CloseIterator n
 
-module _ (root : List ℕ) (iv : ℕ) (constants others : Constants) (above below : StoreState) (who : ℕ) where
+module _ (root : List ℕ) (own : Own) (constants others : Constants) (above below : StoreState) (who : ℕ) where
   -- an outcome of the primary store, as one of the secure store
   abbrev lift : Outcome → Outcome
-  lift outcome = record { state = joined iv outcome.state below; reply = outcome.reply }
+  lift outcome = record { state = joined_by own outcome.state below; reply = outcome.reply }
 
   abbrev secure : Rules
   secure = secure_rules (pair_constants root constants others)
 
   abbrev state : StoreState
-  state = joined iv above below
+  state = joined_by own above below
 
   checks_same : (call : Iterating) → secure.checks state who (operation_by call) ≡ (plain_rules constants).checks above who (operation_by call)
   checks_same (Opens n prefix) = refl
@@ -98,13 +101,13 @@ module _ (root : List ℕ) (iv : ℕ) (constants others : Constants) (above belo
 
   pub leads_lift : (call : Iterating) (after : StoreState) (reply : Reply) (kind : Kind) → above.doubt ≡ None → IsTrue (may_end (operation_by call) kind)
       → LeadsTo (plain_rules constants) above (answered who (operation_by call) reply) after kind
-      → LeadsTo secure state (answered who (operation_by call) reply) (joined iv after below) kind
+      → LeadsTo secure state (answered who (operation_by call) reply) (joined_by own after below) kind
   leads_lift call after reply Ruled running may leads = step_lifts call running ∙ ap lift leads
   leads_lift call after reply FailedRead running may leads =
       (refl, subst (λ (l : List Check). IsTrue (may_fail_reading l)) (sym (checks_same call)) leads.1, ap lift leads.2)
   leads_lift call after reply FailedWrite running may leads = absurd (never_writes call may)
   leads_lift call after reply Mismatched running may leads = absurd leads
-  leads_lift call after reply Wanted running may leads = ap (λ (s : StoreState). joined iv s below) leads
+  leads_lift call after reply Wanted running may leads = ap (λ (s : StoreState). joined_by own s below) leads
 
   pub still_runs : (call : Iterating) (after : StoreState) (reply : Reply) (kind : Kind) → above.doubt ≡ None → IsTrue (may_end (operation_by call) kind)
       → LeadsTo (plain_rules constants) above (answered who (operation_by call) reply) after kind → after.doubt ≡ None
@@ -115,28 +118,39 @@ module _ (root : List ℕ) (iv : ℕ) (constants others : Constants) (above belo
   still_runs call after reply Mismatched running may leads = absurd leads
   still_runs call after reply Wanted running may leads = ap (λ (s : StoreState). s.doubt) leads ∙ running
 
-  advanced_unset : (n : ℕ) (found : Option (List ℕ)) → (advanced above who n found).state.open_set ≡ above.open_set
-  advanced_unset n None = refl
-  advanced_unset n (Some key) = refl
+  -- such a call leaves the set that is active, and the map
+  pub record SameRest (after : StoreState) : Type 0 where
+    pub set : after.open_set ≡ above.open_set
+    pub map : after.primary ≡ above.primary
 
-  refused_unset : (call : Iterating) (found : Option KvError) → (refused_or (plain_rules constants) above who (operation_by call) found).state.open_set ≡ above.open_set
-  refused_unset (Opens n prefix) (Some e) = refl
-  refused_unset (Opens n prefix) None = refl
-  refused_unset (Gives n) (Some e) = refl
-  refused_unset (Gives n) None = advanced_unset n (next_key constants.hash_bits above.primary (position_of above who n))
-  refused_unset (Closes n) (Some e) = refl
-  refused_unset (Closes n) None = refl
+  advanced_rest : (n : ℕ) (found : Option (List ℕ)) → SameRest (advanced above who n found).state
+  advanced_rest n None = record { set = refl; map = refl }
+  advanced_rest n (Some key) = record { set = refl; map = refl }
 
-  pub still_unset : (call : Iterating) (after : StoreState) (reply : Reply) (kind : Kind) → above.doubt ≡ None → IsTrue (may_end (operation_by call) kind)
-      → LeadsTo (plain_rules constants) above (answered who (operation_by call) reply) after kind → after.open_set ≡ above.open_set
-  still_unset call after reply Ruled running may leads =
-      ap (λ (o : Outcome). o.state.open_set) (sym leads ∙ plain_is call running) ∙ refused_unset call (found call)
-  still_unset call after reply FailedRead running may leads = ap (λ (o : Outcome). o.state.open_set) leads.2
-  still_unset call after reply FailedWrite running may leads = absurd (never_writes call may)
-  still_unset call after reply Mismatched running may leads = absurd leads
-  still_unset call after reply Wanted running may leads = ap (λ (s : StoreState). s.open_set) leads
+  refused_rest : (call : Iterating) (found : Option KvError) → SameRest (refused_or (plain_rules constants) above who (operation_by call) found).state
+  refused_rest (Opens n prefix) (Some e) = record { set = refl; map = refl }
+  refused_rest (Opens n prefix) None = record { set = refl; map = refl }
+  refused_rest (Gives n) (Some e) = record { set = refl; map = refl }
+  refused_rest (Gives n) None = advanced_rest n (next_key constants.hash_bits above.primary (position_of above who n))
+  refused_rest (Closes n) (Some e) = record { set = refl; map = refl }
+  refused_rest (Closes n) None = record { set = refl; map = refl }
 
-module _ (root : List ℕ) (iv : ℕ) (rules_by : Constants → Rules) (u u' r : KvState) (plain : IsPlainStore rules_by u) (who : ℕ) (call : Iterating) (reply : Reply)
+  pub still_rest : (call : Iterating) (after : StoreState) (reply : Reply) (kind : Kind) → above.doubt ≡ None → IsTrue (may_end (operation_by call) kind)
+      → LeadsTo (plain_rules constants) above (answered who (operation_by call) reply) after kind → SameRest after
+  still_rest call after reply Ruled running may leads =
+      subst SameRest (ap (λ (o : Outcome). o.state) (sym (plain_is call running) ∙ leads)) (refused_rest call (found call))
+  still_rest call after reply FailedRead running may leads = subst SameRest (ap (λ (o : Outcome). o.state) (sym leads.2)) (record { set = refl; map = refl })
+  still_rest call after reply FailedWrite running may leads = absurd (never_writes call may)
+  still_rest call after reply Mismatched running may leads = absurd leads
+  still_rest call after reply Wanted running may leads = subst SameRest (sym leads) (record { set = refl; map = refl })
+
+-- a share of the active set is held by another state with the same set and map
+pub holds_still : (share : Share) (before after : StoreState) → after.open_set ≡ before.open_set → after.primary ≡ before.primary → Holds share before → Holds share after
+holds_still NoShare before after set map holds = set ∙ holds
+holds_still (HasSet its) before after set map holds = set ∙ holds
+holds_still (LacksKey key) before after set map holds = (set ∙ holds.0, ap (λ (m : FlaggedMap). get m key) map ∙ holds.1)
+
+module _ (root : List ℕ) (own : Own) (rules_by : Constants → Rules) (u u' r : KvState) (plain : IsPlainStore rules_by u) (who : ℕ) (call : Iterating) (reply : Reply)
     (answers : Answers rules_by u u' (answered who (operation_by call) reply)) where
   plain_leads : (above after : StoreState) → u.known.state ≡ Some above → u'.known.state ≡ Some after
       → LeadsTo (plain_rules u.known.constants) above (answered who (operation_by call) reply) after (kind_of reply)
@@ -149,63 +163,64 @@ module _ (root : List ℕ) (iv : ℕ) (rules_by : Constants → Rules) (u u' r :
     rules = λ told. plain.rules (sym answers.does.keeps.tells_state ∙ told);
     running = λ after later.
         let there = some_of u.known.state (sym answers.does.keeps.tells_state ∙ ap is_some later) in
-        ap is_some (still_runs root iv u.known.constants r.known.constants there.0 there.0 who call after reply (kind_of reply) (none_of there.0.doubt (plain.running there.0 there.1)) answers.may_end
+        ap is_some (still_runs root own u.known.constants r.known.constants there.0 there.0 who call after reply (kind_of reply) (none_of there.0.doubt (plain.running there.0 there.1)) answers.may_end
         (plain_leads there.0 after there.1 later));
   }
 
-  pub iterating_unset : (after : StoreState) → u'.known.state ≡ Some after → (above : StoreState) → u.known.state ≡ Some above → after.open_set ≡ above.open_set
-  iterating_unset after later above told =
-      still_unset root iv u.known.constants r.known.constants above above who call after reply (kind_of reply) (none_of above.doubt (plain.running above told)) answers.may_end
-      (plain_leads above after told later)
+  pub iterating_holds : (share : Share) (after : StoreState) → u'.known.state ≡ Some after → (above : StoreState) → u.known.state ≡ Some above → Holds share above → Holds share after
+  iterating_holds share after later above told holds =
+      let rest = still_rest root own u.known.constants r.known.constants above above who call after reply (kind_of reply) (none_of above.doubt (plain.running above told)) answers.may_end
+      (plain_leads above after told later) in
+      holds_still share above after rest.set rest.map holds
 
-  pub iterating_answers : Answers secure_rules (pair root (joined iv) u r) (pair root (joined iv) u' r) (answered who (operation_by call) reply)
+  pub iterating_answers : Answers secure_rules (pair root (joined_by own) u r) (pair root (joined_by own) u' r) (answered who (operation_by call) reply)
   iterating_answers = record {
     does = record {
-      keeps = keeps_both root u u' r r (joined iv) (joined iv) answers.does.keeps (read_none r).keeps;
-      cause = cause_all (carries_above root u u' r r (joined iv) (joined iv) (read_none r).keeps) reply answers.does.cause;
+      keeps = keeps_both root u u' r r (joined_by own) (joined_by own) answers.does.keeps (read_none r).keeps;
+      cause = cause_all (carries_above root u u' r r (joined_by own) (joined_by own) (read_none r).keeps) reply answers.does.cause;
       steady = λ steady. unless_both root u u' r r (kind_of reply) (answers.does.steady (first_of u.known.steady r.known.steady steady)) (second_of u.known.steady r.known.steady steady);
       leads = λ before is after later.
-          let old = told_both (joined iv) u.known.state r.known.state before is in
-          let new = told_both (joined iv) u'.known.state r.known.state after later in
+          let old = told_both (joined_by own) u.known.state r.known.state before is in
+          let new = told_both (joined_by own) u'.known.state r.known.state after later in
           let same : new.below ≡ old.below = same_told r.known.state old.below new.below old.below_told new.below_told in
-          let leads = leads_lift root iv u.known.constants r.known.constants old.above old.below who call new.above reply (kind_of reply) (none_of old.above.doubt (plain.running old.above old.above_told)) answers.may_end
+          let leads = leads_lift root own u.known.constants r.known.constants old.above old.below who call new.above reply (kind_of reply) (none_of old.above.doubt (plain.running old.above old.above_told)) answers.may_end
           (plain_leads old.above new.above old.above_told new.above_told) in
           subst (λ (b : StoreState). LeadsTo (secure_rules (pair_constants root u.known.constants r.known.constants)) b (answered who (operation_by call) reply) after (kind_of reply)) (sym old.joined)
-          (subst (λ (a : StoreState). LeadsTo (secure_rules (pair_constants root u.known.constants r.known.constants)) (joined iv old.above old.below) (answered who (operation_by call) reply) a (kind_of reply))
-          (ap (joined iv new.above) (sym same) ∙ sym new.joined) leads);
+          (subst (λ (a : StoreState). LeadsTo (secure_rules (pair_constants root u.known.constants r.known.constants)) (joined_by own old.above old.below) (answered who (operation_by call) reply) a (kind_of reply))
+          (ap (joined_by own new.above) (sym same) ∙ sym new.joined) leads);
       log = λ before is log log_is. absurd (false≢true (ap is_some log_is));
       cuts = λ tells before is.
-          let old = told_both (joined iv) u.known.state r.known.state before is in
+          let old = told_both (joined_by own) u.known.state r.known.state before is in
           let rules = secure_rules (pair_constants root u.known.constants r.known.constants) in
           let plain_cuts = subst (λ (by : Constants → Rules). TellsOnly u.crash.primary u'.crash.primary old.above.primary (step (by u.known.constants) old.above who (operation_by call)).state.primary)
           (plain.rules (ap is_some old.above_told)) (answers.does.cuts (first_of u.crash.tells_moments r.crash.tells_moments tells) old.above old.above_told).0 in
-          let lifts = sym (step_lifts root iv u.known.constants r.known.constants old.above old.below who call (none_of old.above.doubt (plain.running old.above old.above_told))) in
+          let lifts = sym (step_lifts root own u.known.constants r.known.constants old.above old.below who call (none_of old.above.doubt (plain.running old.above old.above_told))) in
           let Cuts : StoreState → StoreState → Type 0 = λ b a.
           TellsOnly u.crash.primary u'.crash.primary b.primary a.primary × TellsOnly r.crash.primary r.crash.primary b.rollback a.rollback in
-          let whole : Cuts (joined iv old.above old.below) (joined iv (step (plain_rules u.known.constants) old.above who (operation_by call)).state old.below) =
+          let whole : Cuts (joined_by own old.above old.below) (joined_by own (step (plain_rules u.known.constants) old.above who (operation_by call)).state old.below) =
           (plain_cuts, (read_none r).moments (second_of u.crash.tells_moments r.crash.tells_moments tells) old.below old.below_told) in
           subst (λ (b : StoreState). Cuts b (step rules b who (operation_by call)).state) (sym old.joined)
-          (subst (λ (o : Outcome). Cuts (joined iv old.above old.below) o.state) lifts whole);
+          (subst (λ (o : Outcome). Cuts (joined_by own old.above old.below) o.state) lifts whole);
     };
     may_end = answers.may_end;
   }
 
 -- a secure store that runs
-module _ (stopped : Option Noted) (running : is_none stopped ≡ true) (root : List ℕ) (iv : ℕ) (rules_by : Constants → Rules) (u u' r : KvState)
-    (plain : IsPlainWhile (is_none stopped) rules_by u) (who : ℕ) (call : Iterating) (reply : Reply) (answers : Answers rules_by u u' (answered who (operation_by call) reply)) where
-  pub iterates : Answers secure_rules (pair root (joining_of iv (noted_in stopped)) u r) (pair root (joining_of iv (noted_in stopped)) u' r) (answered who (operation_by call) reply)
+module _ (stopped : Option Noted) (running : is_none stopped ≡ true) (root : List ℕ) (own : Own) (share : Share) (rules_by : Constants → Rules) (u u' r : KvState)
+    (plain : IsPlainWhile (is_none stopped) share rules_by u) (who : ℕ) (call : Iterating) (reply : Reply) (answers : Answers rules_by u u' (answered who (operation_by call) reply)) where
+  pub iterates : Answers secure_rules (pair root (joining_of own (noted_in stopped)) u r) (pair root (joining_of own (noted_in stopped)) u' r) (answered who (operation_by call) reply)
   iterates =
-      running_answers stopped running root iv iv u r u' r (answered who (operation_by call) reply)
-      (iterating_answers root iv rules_by u u' r (runs_plain (is_none stopped) plain running) who call reply answers)
+      running_answers stopped running root own own u r u' r (answered who (operation_by call) reply)
+      (iterating_answers root own rules_by u u' r (runs_plain (is_none stopped) plain running) who call reply answers)
 
-  pub iterating_while : IsPlainWhile (is_none stopped) rules_by u'
+  pub iterating_while : IsPlainWhile (is_none stopped) share rules_by u'
   iterating_while =
-      let kept = iterating_plain root iv rules_by u u' r (runs_plain (is_none stopped) plain running) who call reply answers in
+      let kept = iterating_plain root own rules_by u u' r (runs_plain (is_none stopped) plain running) who call reply answers in
       record {
         rules = kept.rules;
         running = λ again. kept.running;
-        no_set = λ again after later.
+        holds = λ again after later.
             let there = some_of u.known.state (sym answers.does.keeps.tells_state ∙ ap is_some later) in
-            ap is_some (iterating_unset root iv rules_by u u' r (runs_plain (is_none stopped) plain running) who call reply answers after later there.0 there.1)
-            ∙ plain.no_set running there.0 there.1;
+            iterating_holds root own rules_by u u' r (runs_plain (is_none stopped) plain running) who call reply answers share after later there.0 there.1
+            (plain.holds running there.0 there.1);
       }

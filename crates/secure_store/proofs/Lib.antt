@@ -1,12 +1,26 @@
 mod ArmingLemmas
+mod BeginningLemmas
+mod BegunLemmas
 mod BehindLemmas
+mod EndingLemmas
 mod GoingLemmas
+mod HealingLemmas
 mod HeldLemmas
 mod InfoLemmas
+mod RecoveringLemmas
 mod RemovingLemmas
 mod ResetLemmas
 mod RunningLemmas
+mod SettingCheckLemmas
+mod SettingFillLemmas
+mod SettingFinishLemmas
+mod SettingLemmas
+mod SettingPartLemmas
+mod SettingRunLemmas
+mod SettingStartLemmas
 mod SettleLemmas
+mod TryingLemmas
+mod WalkLemmas
 pub mod AbsorbingLemmas
 pub mod AnyCutLemmas
 pub mod CutLemmas
@@ -30,3 +44,4 @@ pub mod SetLemmas
 pub mod StoreReadLemmas
 pub mod ViewLemmas
 pub mod ViewingLemmas
+pub mod TakenLemmas

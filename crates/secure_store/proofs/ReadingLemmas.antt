@@ -150,6 +150,10 @@ abbrev size_in : Reply → ℕ
 size_in (Facts n flags) = n
 size_in reply = 0
 
+abbrev flags_given : Reply → ℕ
+flags_given (Facts n flags) = flags.bits
+flags_given reply = 0
+
 abbrev as_reply : Reply → Reply
 as_reply reply = reply
 
@@ -159,6 +163,10 @@ never_below_none n = grind (arith, nat_tests)
 info_size : (constants : Constants) (state : StoreState) (key : List ℕ) (stored : Stored) → state.doubt ≡ None → is_key key ≡ true
     → get state.primary key ≡ Some stored → size_in (step (plain_rules constants) state 0 (Info key)).reply ≡ length stored.bytes
 info_size constants state key stored running good there = simp (running, good, there) refl
+
+info_flags : (constants : Constants) (state : StoreState) (key : List ℕ) (stored : Stored) → state.doubt ≡ None → is_key key ≡ true
+    → get state.primary key ≡ Some stored → flags_given (step (plain_rules constants) state 0 (Info key)).reply ≡ stored.flags
+info_flags constants state key stored running good there = simp (running, good, there) refl
 
 module _ (rules_by : Constants → Rules) (are_by : (constants : Constants) → AreRules (rules_by constants)) (key : List ℕ) (old new : KvState) (state : StoreState)
     (tells : TellsPlain rules_by old state) (good : is_key key ≡ true) where
@@ -172,12 +180,14 @@ module _ (rules_by : Constants → Rules) (are_by : (constants : Constants) → 
       let bytes : take n stored.bytes ≡ take got.read buf =
       ap (λ (b : Bool). value_in (if b then refuses state error.InvalidSize else record { state = state; reply = Value (take n stored.bytes) }).reply) (sym (never_below_none (length stored.bytes)))
       ∙ ap value_in given in
-      let facts : size_in (step (plain_rules old.known.constants) state 0 (Info key)).reply ≡ got.size =
-      ap size_in (subst (λ (by : Constants → Rules). (step (by old.known.constants) state 0 (Info key)).reply ≡ Facts got.size got.flags) tells.rules (is_got.facts state tells.told)) in
+      let facts = subst (λ (by : Constants → Rules). (step (by old.known.constants) state 0 (Info key)).reply ≡ Facts got.size got.flags) tells.rules (is_got.facts state tells.told) in
+      let long_as : size_in (step (plain_rules old.known.constants) state 0 (Info key)).reply ≡ got.size = ap size_in facts in
+      let flagged : flags_given (step (plain_rules old.known.constants) state 0 (Info key)).reply ≡ got.flags.bits = ap flags_given facts in
       record {
         stored = stored;
         there = refl;
-        size = sym facts ∙ info_size old.known.constants state key stored tells.running good there;
+        size = sym long_as ∙ info_size old.known.constants state key stored tells.running good there;
+        flags = sym flagged ∙ info_flags old.known.constants state key stored tells.running good there;
         read = omega (arith, ap length bytes, length-take n stored.bytes, length-take got.read buf, is_got.fits, long);
         bytes = sym bytes;
       }

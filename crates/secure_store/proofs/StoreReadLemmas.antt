@@ -28,7 +28,7 @@ use Rattle.secure_store.specs.declared.opening.Found.{Found}
 use Rattle.secure_store.specs.Pair.{pair, pair_constants}
 use Rattle.secure_store.specs.Reading.{HasRead, IsUnread, TellsPlain, WhereTold}
 use Rattle.secure_store.specs.SecureStep.{secure_rules}
-use Rattle.secure_store.specs.Store.{IsOwnValue, IsPlainStore, IsTagOf, OwnsWhole, WithinOr, joined}
+use Rattle.secure_store.specs.Store.{IsOwnValue, IsPlainStore, IsTagOf, Own, OwnsWhole, WithinOr, joined_by}
 use Rattle.secure_store.specs.View.{view_of}
 use Rattle.secure_store.specs.Viewing.{IsHeld, IsNoForeign, ViewsOr}
 use Rattle.secure_store.proofs.PairLemmas.{read_answers, read_none, told_both}
@@ -48,44 +48,44 @@ plain_kept read plain = record {
   running = λ state told. plain.running state (sym read.state ∙ told);
 }
 
-module _ (root : List ℕ) (iv : ℕ) (u u' r r' : KvState) where
+module _ (root : List ℕ) (own : Own) (u u' r r' : KvState) where
   abbrev constants : Constants
   constants = pair_constants root u.known.constants r.known.constants
 
   abbrev old : KvState
-  old = pair root (joined iv) u r
+  old = pair root (joined_by own) u r
 
   abbrev new : KvState
-  new = pair root (joined iv) u' r'
+  new = pair root (joined_by own) u' r'
 
   module _ (who : ℕ) (key : List ℕ) where
     pub part_answers : (place n : ℕ) (reply : Reply) → HasRead u u' → HasRead r r' → IsCause old.known new.known reply
         → IsTrue (may_end (Part key place n) (kind_of reply))
         → ((above below : StoreState) → u.known.state ≡ Some above → r.known.state ≡ Some below
-        → LeadsTo (secure_rules constants) (joined iv above below) (answered who (Part key place n) reply) (joined iv above below) (kind_of reply))
+        → LeadsTo (secure_rules constants) (joined_by own above below) (answered who (Part key place n) reply) (joined_by own above below) (kind_of reply))
         → Answers secure_rules old new (answered who (Part key place n) reply)
     part_answers place n reply one two cause may leads =
-        read_answers root u u' r r' secure_rules (joined iv) (answered who (Part key place n) reply) one two cause may
+        read_answers root u u' r r' secure_rules (joined_by own) (answered who (Part key place n) reply) one two cause may
         (λ above below above_told below_told. record {
           primary = refl;
           rollback = refl;
-          stays = step_stays (secure_rules constants) (secure_are_rules constants) (joined iv above below) who key
-              (part_reading (secure_rules constants) (secure_are_rules constants) (joined iv above below) who key place n);
+          stays = step_stays (secure_rules constants) (secure_are_rules constants) (joined_by own above below) who key
+              (part_reading (secure_rules constants) (secure_are_rules constants) (joined_by own above below) who key place n);
           leads = leads above below above_told below_told;
         })
 
     pub info_answers : (reply : Reply) → HasRead u u' → HasRead r r' → IsCause old.known new.known reply
         → IsTrue (may_end (Info key) (kind_of reply))
         → ((above below : StoreState) → u.known.state ≡ Some above → r.known.state ≡ Some below
-        → LeadsTo (secure_rules constants) (joined iv above below) (answered who (Info key) reply) (joined iv above below) (kind_of reply))
+        → LeadsTo (secure_rules constants) (joined_by own above below) (answered who (Info key) reply) (joined_by own above below) (kind_of reply))
         → Answers secure_rules old new (answered who (Info key) reply)
     info_answers reply one two cause may leads =
-        read_answers root u u' r r' secure_rules (joined iv) (answered who (Info key) reply) one two cause may
+        read_answers root u u' r r' secure_rules (joined_by own) (answered who (Info key) reply) one two cause may
         (λ above below above_told below_told. record {
           primary = refl;
           rollback = refl;
-          stays = step_stays (secure_rules constants) (secure_are_rules constants) (joined iv above below) who key
-              (info_reading (secure_rules constants) (secure_are_rules constants) (joined iv above below) who key);
+          stays = step_stays (secure_rules constants) (secure_are_rules constants) (joined_by own above below) who key
+              (info_reading (secure_rules constants) (secure_are_rules constants) (joined_by own above below) who key);
           leads = leads above below above_told below_told;
         })
 
@@ -112,7 +112,7 @@ module _ (root : List ℕ) (iv : ℕ) (u u' r r' : KvState) where
     part_refused who place n e offset buf good unread views =
         part_answers who key place n (Refused e) one two unread.cause (may_part who key place n (kind_of (Refused e)) unread.may_end)
         (λ above below above_told below_told.
-        part_leads constants (joined iv above below) who key refl good place n e
+        part_leads constants (joined_by own above below) who key refl good place n e
         (views above (tells_plain above plain_above above_told) below (tells_plain below plain_below below_told)))
 
     pub info_refused : (who : ℕ) (e : KvError) (offset : ℕ) (buf : List ℕ) → is_key key ≡ true → IsUnread old new e
@@ -121,7 +121,7 @@ module _ (root : List ℕ) (iv : ℕ) (u u' r r' : KvState) where
     info_refused who e offset buf good unread views =
         info_answers who key (Refused e) one two unread.cause (may_info who key (kind_of (Refused e)) unread.may_end)
         (λ above below above_told below_told.
-        info_leads constants (joined iv above below) who key refl good e
+        info_leads constants (joined_by own above below) who key refl good e
         (views above (tells_plain above plain_above above_told) below (tells_plain below plain_below below_told)))
 
     -- a key that is held
@@ -143,22 +143,22 @@ module _ (root : List ℕ) (iv : ℕ) (u u' r r' : KvState) where
           part_answers who key offset (length buf) (Value (take found.read buf)) one two tt refl
           (λ above below above_told below_told.
           let held = held_at above below above_told below_told in
-          part_held constants (joined iv above below) who key refl good offset (length buf) found.flags.bits held.value held.held (within found.size held.value held.gives.size most)
-          ∙ ap (λ (l : List ℕ). record { state = joined iv above below; reply = Value l }) (sym held.gives.bytes))
+          part_held constants (joined_by own above below) who key refl good offset (length buf) found.flags.bits held.value held.held (within found.size held.value held.gives.size most)
+          ∙ ap (λ (l : List ℕ). record { state = joined_by own above below; reply = Value l }) (sym held.gives.bytes))
 
       pub part_too_far : (who : ℕ) → found.size + 1 ≤ offset → Answers secure_rules old new (answered who (Part key offset (length buf)) (Refused error.InvalidSize))
       part_too_far who more =
           part_answers who key offset (length buf) (Refused error.InvalidSize) one two tt refl
           (λ above below above_told below_told.
           let held = held_at above below above_told below_told in
-          part_beyond constants (joined iv above below) who key refl good offset (length buf) found.flags.bits held.value held.held (beyond found.size held.value held.gives.size more))
+          part_beyond constants (joined_by own above below) who key refl good offset (length buf) found.flags.bits held.value held.held (beyond found.size held.value held.gives.size more))
 
       facts_at : (above below : StoreState) → u.known.state ≡ Some above → r.known.state ≡ Some below → (who : ℕ)
-          → step (secure_rules constants) (joined iv above below) who (Info key) ≡ record { state = joined iv above below; reply = Facts found.size found.flags }
+          → step (secure_rules constants) (joined_by own above below) who (Info key) ≡ record { state = joined_by own above below; reply = Facts found.size found.flags }
       facts_at above below above_told below_told who =
           let held = held_at above below above_told below_told in
-          info_held constants (joined iv above below) who key refl good found.flags.bits held.value held.held
-          ∙ ap (λ (n : ℕ). record { state = joined iv above below; reply = Facts n found.flags }) (sym held.gives.size)
+          info_held constants (joined_by own above below) who key refl good found.flags.bits held.value held.held
+          ∙ ap (λ (n : ℕ). record { state = joined_by own above below; reply = Facts n found.flags }) (sym held.gives.size)
 
       pub facts_given : (who : ℕ) → Answers secure_rules old new (answered who (Info key) (Facts found.size found.flags))
       facts_given who =
@@ -168,7 +168,7 @@ module _ (root : List ℕ) (iv : ℕ) (u u' r r' : KvState) where
       is_got n fits = record {
         fits = fits;
         facts = λ before is.
-            let told = told_both (joined iv) u.known.state r.known.state before is in
+            let told = told_both (joined_by own) u.known.state r.known.state before is in
             subst (λ (s : StoreState). (step (secure_rules constants) s 0 (Info key)).reply ≡ Facts found.size found.flags) (sym told.joined)
             (ap (λ (o : Outcome). o.reply) (facts_at told.above told.below told.above_told told.below_told 0));
       }
@@ -216,41 +216,41 @@ owns_whole rules_by r root key offset found buf plain foreign is whole mirrored 
 
 -- ---- bytes that are no key
 
-pub part_bad : (root : List ℕ) (iv : ℕ) (u r : KvState) (who : ℕ) (key : List ℕ) (place n : ℕ) (e : KvError) → (e ≡ error.InvalidKey) × (is_key key ≡ false)
-    → Answers secure_rules (pair root (joined iv) u r) (pair root (joined iv) u r) (answered who (Part key place n) (Refused e))
-part_bad root iv u r who key place n e bad =
-    subst (λ (f : KvError). Answers secure_rules (pair root (joined iv) u r) (pair root (joined iv) u r) (answered who (Part key place n) (Refused f))) (sym bad.0)
-    (part_answers root iv u u r r who key place n (Refused error.InvalidKey) (read_none u) (read_none r) tt refl
-    (λ above below above_told below_told. bad_part (constants root iv u u r r) (joined iv above below) who key refl place n bad.1))
+pub part_bad : (root : List ℕ) (own : Own) (u r : KvState) (who : ℕ) (key : List ℕ) (place n : ℕ) (e : KvError) → (e ≡ error.InvalidKey) × (is_key key ≡ false)
+    → Answers secure_rules (pair root (joined_by own) u r) (pair root (joined_by own) u r) (answered who (Part key place n) (Refused e))
+part_bad root own u r who key place n e bad =
+    subst (λ (f : KvError). Answers secure_rules (pair root (joined_by own) u r) (pair root (joined_by own) u r) (answered who (Part key place n) (Refused f))) (sym bad.0)
+    (part_answers root own u u r r who key place n (Refused error.InvalidKey) (read_none u) (read_none r) tt refl
+    (λ above below above_told below_told. bad_part (constants root own u u r r) (joined_by own above below) who key refl place n bad.1))
 
-pub info_bad : (root : List ℕ) (iv : ℕ) (u r : KvState) (who : ℕ) (key : List ℕ) (e : KvError) → (e ≡ error.InvalidKey) × (is_key key ≡ false)
-    → Answers secure_rules (pair root (joined iv) u r) (pair root (joined iv) u r) (answered who (Info key) (Refused e))
-info_bad root iv u r who key e bad =
-    subst (λ (f : KvError). Answers secure_rules (pair root (joined iv) u r) (pair root (joined iv) u r) (answered who (Info key) (Refused f))) (sym bad.0)
-    (info_answers root iv u u r r who key (Refused error.InvalidKey) (read_none u) (read_none r) tt refl
-    (λ above below above_told below_told. bad_info (constants root iv u u r r) (joined iv above below) who key refl bad.1))
+pub info_bad : (root : List ℕ) (own : Own) (u r : KvState) (who : ℕ) (key : List ℕ) (e : KvError) → (e ≡ error.InvalidKey) × (is_key key ≡ false)
+    → Answers secure_rules (pair root (joined_by own) u r) (pair root (joined_by own) u r) (answered who (Info key) (Refused e))
+info_bad root own u r who key e bad =
+    subst (λ (f : KvError). Answers secure_rules (pair root (joined_by own) u r) (pair root (joined_by own) u r) (answered who (Info key) (Refused f))) (sym bad.0)
+    (info_answers root own u u r r who key (Refused error.InvalidKey) (read_none u) (read_none r) tt refl
+    (λ above below above_told below_told. bad_info (constants root own u u r r) (joined_by own above below) who key refl bad.1))
 
 -- ---- what is read of a record that was found
 
-module _ (root : List ℕ) (iv : ℕ) (u u' r r' : KvState) (by_above by_below : Constants → Rules) (plain_above : IsPlainStore by_above u) (plain_below : IsPlainStore by_below r)
+module _ (root : List ℕ) (own : Own) (u u' r r' : KvState) (by_above by_below : Constants → Rules) (plain_above : IsPlainStore by_above u) (plain_below : IsPlainStore by_below r)
     (key : List ℕ) (one : HasRead u u') (two : HasRead r r') (found : Found) (offset n : ℕ) (buf : List ℕ) (long : length buf ≡ n) (good : is_key key ≡ true)
     (views : WhereTold by_above u (λ above. WhereTold by_below r (λ below.
     ViewsOr (view_of root (record { primary = above.primary; rollback = below.primary }) key) (Ok found) offset buf))) where
   pub part_by : (result : Result Got KvError) → WithinOr offset found result → (who : ℕ)
-      → Answers secure_rules (pair root (joined iv) u r) (pair root (joined iv) u' r') (answered who (Part key offset n) (got_or result buf))
+      → Answers secure_rules (pair root (joined_by own) u r) (pair root (joined_by own) u' r') (answered who (Part key offset n) (got_or result buf))
   part_by (Ok got) within who =
-      subst (λ (m : ℕ). Answers secure_rules (pair root (joined iv) u r) (pair root (joined iv) u' r') (answered who (Part key offset m) (Value (take got.read buf)))) long
-      (subst (λ (k : ℕ). Answers secure_rules (pair root (joined iv) u r) (pair root (joined iv) u' r') (answered who (Part key offset (length buf)) (Value (take k buf)))) (ap (λ (g : Got). g.read) (sym within.1))
-      (part_given root iv u u' r r' by_above by_below plain_above plain_below key one two found offset buf good views who within.0))
+      subst (λ (m : ℕ). Answers secure_rules (pair root (joined_by own) u r) (pair root (joined_by own) u' r') (answered who (Part key offset m) (Value (take got.read buf)))) long
+      (subst (λ (k : ℕ). Answers secure_rules (pair root (joined_by own) u r) (pair root (joined_by own) u' r') (answered who (Part key offset (length buf)) (Value (take k buf)))) (ap (λ (g : Got). g.read) (sym within.1))
+      (part_given root own u u' r r' by_above by_below plain_above plain_below key one two found offset buf good views who within.0))
   part_by (Err e) within who =
-      subst (λ (m : ℕ). Answers secure_rules (pair root (joined iv) u r) (pair root (joined iv) u' r') (answered who (Part key offset m) (Refused e))) long
-      (subst (λ (f : KvError). Answers secure_rules (pair root (joined iv) u r) (pair root (joined iv) u' r') (answered who (Part key offset (length buf)) (Refused f))) (sym within.1)
-      (part_too_far root iv u u' r r' by_above by_below plain_above plain_below key one two found offset buf good views who within.0))
+      subst (λ (m : ℕ). Answers secure_rules (pair root (joined_by own) u r) (pair root (joined_by own) u' r') (answered who (Part key offset m) (Refused e))) long
+      (subst (λ (f : KvError). Answers secure_rules (pair root (joined_by own) u r) (pair root (joined_by own) u' r') (answered who (Part key offset (length buf)) (Refused f))) (sym within.1)
+      (part_too_far root own u u' r r' by_above by_below plain_above plain_below key one two found offset buf good views who within.0))
 
-  pub got_by : (result : Result Got KvError) → WithinOr offset found result → found.read ≤ n → IfOk result (IsGot secure_rules (pair root (joined iv) u r) key n)
+  pub got_by : (result : Result Got KvError) → WithinOr offset found result → found.read ≤ n → IfOk result (IsGot secure_rules (pair root (joined_by own) u r) key n)
   got_by (Ok got) within fits =
-      subst (IsGot secure_rules (pair root (joined iv) u r) key n) (sym within.1)
-      (is_got root iv u u' r r' by_above by_below plain_above plain_below key one two found offset buf good views n fits)
+      subst (IsGot secure_rules (pair root (joined_by own) u r) key n) (sym within.1)
+      (is_got root own u u' r r' by_above by_below plain_above plain_below key one two found offset buf good views n fits)
   got_by (Err e) within fits = tt
 
   pub owns_by : (result : Result Got KvError) → WithinOr offset found result → IsNoForeign by_below r root key offset found buf

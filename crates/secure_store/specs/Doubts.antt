@@ -10,7 +10,7 @@ use Rattle.kv_model.specs.Kv.{KvState}
 use Rattle.store_note.specs.declared.noted.Noted.{Noted}
 use Rattle.secure_store.specs.Pair.{Joining, PairStands, pair_constants}
 use Rattle.secure_store.specs.SecureStep.{secure_rules}
-use Rattle.secure_store.specs.Store.{joined}
+use Rattle.secure_store.specs.Store.{Own, joined, joined_by}
 
 -- the state of a store in which a write of this call fails
 abbrev pub doubted : KvState → ℕ → Operation → StoreState
@@ -23,9 +23,9 @@ noted_in None = None
 noted_in (Some noted) = Some noted.state
 
 -- the state of the two stores as one: of a store that was stopped what was noted
-abbrev pub joining_of : ℕ → Option StoreState → Joining
-joining_of next_vector None = joined next_vector
-joining_of next_vector (Some noted) = λ primary rollback. noted
+abbrev pub joining_of : Own → Option StoreState → Joining
+joining_of own None = joined_by own
+joining_of own (Some noted) = λ primary rollback. noted
 
 -- the maps of both stores are those that a cut in the call in doubt may leave
 abbrev pub IsCutIn : Constants → StoreState → Maps → Type 0

@@ -1,6 +1,8 @@
 pub mod Absorbing
+pub mod Active
 pub mod Asked
 pub mod Asking
+pub mod Begun
 pub mod Doubts
 pub mod Facts
 pub mod Going
@@ -9,11 +11,14 @@ pub mod Laws
 pub mod Limits
 pub mod Pair
 pub mod Reading
+pub mod Recovering
 pub mod Removing
 pub mod Running
 pub mod Sealing
 pub mod SecureState
 pub mod SecureStep
+pub mod Setting
+pub mod Shares
 pub mod Store
 pub mod View
 pub mod Viewing

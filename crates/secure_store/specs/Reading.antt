@@ -41,6 +41,7 @@ pub record Begins (found : Option Stored) (wanted : ℕ) (got : Got) (buf : List
   pub stored : Stored
   pub there : found ≡ Some stored
   pub size : got.size ≡ length stored.bytes
+  pub flags : got.flags.bits ≡ stored.flags
   pub read : got.read ≡ min wanted (length stored.bytes)
   pub bytes : take got.read buf ≡ take wanted stored.bytes
 

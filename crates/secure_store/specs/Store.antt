@@ -9,24 +9,25 @@ use Rattle.kv_model.specs.Constants.{Constants}
 use Rattle.kv_model.specs.declared.call.Got.{Got}
 use Rattle.kv_model.specs.FlaggedMap.{Stored}
 use Rattle.kv_model.specs.Flags.{is_mirrored}
-use Rattle.kv_model.specs.StoreState.{StoreState}
+use Rattle.kv_model.specs.StoreState.{OpenSet, StoreState}
 use Rattle.kv_model.specs.Rules.{Rules}
 use Rattle.kv_model.specs.PlainStep.{plain_rules}
 use Rattle.kv_model.specs.Kv.{KvState}
 use Rattle.secure_record.specs.Sealed.{stored, tag, tag1}
 use Rattle.secure_store.specs.declared.opening.Found.{Found}
 use Rattle.secure_store.specs.Pair.{Joining}
+use Rattle.secure_store.specs.Shares.{Holds, Share}
 
 -- A store that tells its state goes by the plain rules, and is not stopped.
 pub record IsPlainStore (rules_by : Constants → Rules) (s : KvState) : Type 0 where
   pub rules : is_some s.known.state ≡ true → rules_by ≡ plain_rules
   pub running : ForSome s.known.state (λ (state : StoreState). is_some state.doubt ≡ false)
 
--- A store that tells its state goes by the plain rules, and while the two run it runs and has no active set.
-pub record IsPlainWhile (runs : Bool) (rules_by : Constants → Rules) (s : KvState) : Type 0 where
+-- A store that tells its state goes by the plain rules, and while the two run it runs and has its share of the active set.
+pub record IsPlainWhile (runs : Bool) (share : Share) (rules_by : Constants → Rules) (s : KvState) : Type 0 where
   pub rules : is_some s.known.state ≡ true → rules_by ≡ plain_rules
   pub running : runs ≡ true → ForSome s.known.state (λ (state : StoreState). is_some state.doubt ≡ false)
-  pub no_set : runs ≡ true → ForSome s.known.state (λ (state : StoreState). is_some state.open_set ≡ false)
+  pub holds : runs ≡ true → ForSome s.known.state (Holds share)
 
 -- a plain store without an active set and without iterators
 pub record IsFreshStore (rules_by : Constants → Rules) (s : KvState) : Type 0 where
@@ -34,16 +35,28 @@ pub record IsFreshStore (rules_by : Constants → Rules) (s : KvState) : Type 0 
   pub no_set : ForSome s.known.state (λ (state : StoreState). state.open_set ≡ None)
   pub no_iterators : ForSome s.known.state (λ (state : StoreState). state.iterators ≡ empty)
 
--- the state of a secure store that runs and has no active set
-abbrev pub joined : ℕ → Joining
-joined next_vector primary rollback = record {
+-- what a secure store has of the state itself: its next number and the set that is active
+pub record Own : Type 0 where
+  pub number : ℕ
+  pub set : Option OpenSet
+
+-- the state of the two stores as one
+abbrev pub joined_by : Own → Joining
+joined_by own primary rollback = record {
   primary = primary.primary;
   rollback = rollback.primary;
-  open_set = None;
+  open_set = own.set;
   iterators = primary.iterators;
-  next_vector = next_vector;
+  next_vector = own.number;
   doubt = None;
 }
+
+-- the same with no active set
+abbrev pub idle_own : ℕ → Own
+idle_own number = record { number = number; set = None }
+
+abbrev pub joined : ℕ → Joining
+joined number = joined_by (idle_own number)
 
 -- what the rollback store holds for the key is a tag of this value, with some vector, in one of the two revisions
 abbrev pub IsTagOf : List ℕ → List ℕ → ℕ → List ℕ → List ℕ → Type 0

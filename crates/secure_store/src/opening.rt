@@ -124,8 +124,12 @@ fn absorb_all<K: Kv>(
     Ok(())
 }
 
-// Begins the record of a key. It gives none where the store lacks the key.
-fn begin<K: Kv>(store: &mut K, root: &[u8; 16], key: &Key) -> Result<Option<OpenStream>, KvError>
+/// Begins the record of a key. It gives none where the store lacks the key.
+pub(crate) fn begin<K: Kv>(
+    store: &mut K,
+    root: &[u8; 16],
+    key: &Key,
+) -> Result<Option<OpenStream>, KvError>
     ensures read { HasRead (K.state store.old) (K.state store.new) }
     ensures refusal { IfErr result (IsUnread (K.state store.old) (K.state store.new)) }
     ensures fresh { IfOk result (λ stream. IfSome stream (IsFresh root.now key.now)) }
@@ -147,9 +151,9 @@ fn begin<K: Kv>(store: &mut K, root: &[u8; 16], key: &Key) -> Result<Option<Open
     }
 }
 
-// Opens a record that was begun, and leaves the bytes of its value from an offset on at the front
-// of the buffer.
-fn open_begun<K: Kv>(
+/// Opens a record that was begun, and leaves the bytes of its value from an offset on at the front
+/// of the buffer.
+pub(crate) fn open_begun<K: Kv>(
     store: &mut K,
     root: &[u8; 16],
     key: &Key,

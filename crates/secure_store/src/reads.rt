@@ -12,8 +12,8 @@ use crate::store::SecureStore;
 use crate::viewing::view_key;
 use kv_model::{Got, Info, Key, Kv, KvError};
 
-// The key of these bytes.
-fn key_of(bytes: &[u8]) -> Result<Key, KvError>
+/// The key of these bytes.
+pub(crate) fn key_of(bytes: &[u8]) -> Result<Key, KvError>
     ensures { KeyOr bytes.now result }
 {
     if !kv_model::is_key(bytes) {
@@ -65,6 +65,7 @@ impl<U: Kv, R: Kv> SecureStore<U, R> {
             rollback,
             root: *root,
             iv,
+            active: None,
             stopped: None,
         }
     }
@@ -100,6 +101,7 @@ impl<U: Kv, R: Kv> SecureStore<U, R> {
             rollback,
             root: _,
             iv: _,
+            active: _,
             stopped: _,
         } = self;
         (primary, rollback)

@@ -1,9 +1,11 @@
 // A secure store over two others.
 ghost use Rattle.std.specs.Prelude.{is_none};
+ghost use Rattle.secure_store.specs.Active.{share_above, share_below};
 ghost use Rattle.secure_store.specs.Doubts.{WhereStopped, noted_in};
 ghost use Rattle.secure_store.specs.Store.{IsPlainWhile};
 ghost use Rattle.secure_store.specs.Facts.{plain_prop};
 
+use crate::active::Active;
 use kv_model::Kv;
 use store_note::Noted;
 
@@ -16,10 +18,13 @@ pub struct SecureStore<U: Kv, R: Kv> {
     pub(crate) root: [u8; 16],
     /// The number of the next set that takes one.
     pub(crate) iv: u64,
+    pub(crate) active: Option<Active>,
     /// What a store tells in which a write failed; no call of it is made any more.
     pub(crate) stopped: Option<Noted>,
-    ghost above: { IsPlainWhile (is_none stopped) U.rules_by (U.state primary) } by { plain_prop },
-    ghost below: { IsPlainWhile (is_none stopped) R.rules_by (R.state rollback) } by { plain_prop },
+    ghost above: { IsPlainWhile (is_none stopped) (share_above active) U.rules_by
+        (U.state primary) } by { plain_prop },
+    ghost below: { IsPlainWhile (is_none stopped) (share_below active) R.rules_by
+        (R.state rollback) } by { plain_prop },
     ghost in_doubt: { ∥ WhereStopped root (noted_in stopped) (U.state primary)
         (R.state rollback) ∥₁ },
 }

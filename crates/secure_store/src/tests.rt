@@ -5,7 +5,7 @@ ghost use Rattle.secure_store.specs.Store.{IsFreshStore};
 
 use crate::SecureStore;
 use kv_memory::MemoryStore;
-use kv_model::{Flags, Kv};
+use kv_model::{Flags, Kv, KvError};
 use std::alloc::Global;
 use std::test::Fail;
 
@@ -194,5 +194,211 @@ fn a_reset_leaves_no_key(rt: HostRuntime) -> Result<(), Fail> {
         let alloc = rt.alloc();
         assert_eq!(rt; emptied(alloc, KEY, record, tag, true), [0, 1]);
     }
+    Ok(())
+}
+
+// The tag that the record in revision 2 replaces.
+const PRIOR: [u8; 16] = [
+    0xa0, 0xa1, 0xa2, 0xa3, 0xa4, 0xa5, 0xa6, 0xa7, 0xa8, 0xa9, 0xaa, 0xab, 0xac, 0xad, 0xae, 0xaf,
+];
+
+// The number of a refusal, or 0.
+fn number_of(answer: Result<(), KvError>) -> u8 {
+    match answer {
+        Ok(()) => 0,
+        Err(refusal) => refusal.number(),
+    }
+}
+
+// The answers to a remove that client 1 begins, to the same client's remove, to another client's
+// reset, to the end of what was begun, and to a read beside it and a read behind it.
+fn begun(alloc: Global, record: &[u8], tag: &[u8], is_finished: bool) -> [u8; 6] {
+    let primary = filled(alloc, KEY, record);
+    let rollback = filled(alloc, KEY, tag);
+    let mut store = SecureStore::new(primary, rollback, &ROOT, 1);
+    let mut buf = [7; 20];
+    let first = number_of(store.remove_start(1, KEY));
+    let beside = match store.get(KEY, 0, &mut buf) {
+        Ok(_) => 0,
+        Err(refusal) => refusal.number(),
+    };
+    let own = number_of(store.remove(1, KEY));
+    let other = number_of(store.reset(2));
+    let end = if is_finished {
+        number_of(store.set_finish(1))
+    } else {
+        number_of(store.set_abort(1))
+    };
+    let behind = match store.get(KEY, 0, &mut buf) {
+        Ok(_) => 0,
+        Err(refusal) => refusal.number(),
+    };
+    let (_, _) = store.into_parts();
+    [first, own, other, end, beside, behind]
+}
+
+// Until a remove that was begun is finished a read shows the old value, and no client changes it.
+#[test]
+fn a_begun_remove_waits_for_its_finish(rt: HostRuntime) -> Result<(), Fail> {
+    let absent: &[u8] = b"";
+    let cases: [(&[u8], &[u8], bool, [u8; 6]); 6] = [
+        (&SECOND, &SECOND_TAG, true, [0, 9, 11, 0, 0, 1]),
+        (&SECOND, &SECOND_TAG, false, [0, 9, 11, 0, 0, 0]),
+        (&PLAIN, absent, true, [0, 9, 11, 0, 0, 1]),
+        (absent, &SECOND_TAG, true, [0, 9, 11, 0, 17, 1]),
+        (absent, &SECOND_TAG, false, [0, 9, 11, 0, 17, 17]),
+        (absent, absent, true, [1, 1, 0, 10, 1, 1]),
+    ];
+    for (record, tag, is_finished, wanted) in cases.iter() {
+        let alloc = rt.alloc();
+        assert_eq!(rt; begun(alloc, record, tag, *is_finished), *wanted);
+    }
+    Ok(())
+}
+
+// The answers to adding bytes to a remove that client 1 has begun: none, some, and none by another
+// client.
+fn added(alloc: Global) -> [u8; 3] {
+    let primary = filled(alloc, KEY, &PLAIN);
+    let rollback = filled(alloc, KEY, b"");
+    let mut store = SecureStore::new(primary, rollback, &ROOT, 1);
+    let _ = store.remove_start(1, KEY);
+    let none = number_of(store.set_add(1, b""));
+    let some = number_of(store.set_add(1, b"x"));
+    let other = number_of(store.set_add(2, b""));
+    let (_, _) = store.into_parts();
+    [none, some, other]
+}
+
+#[test]
+fn a_begun_remove_takes_no_bytes(rt: HostRuntime) -> Result<(), Fail> {
+    assert_eq!(rt; added(rt.alloc()), [0, 4, 10]);
+    Ok(())
+}
+
+// The bytes that both stores hold of a key once it was set, where the rollback store had a tag.
+fn sealed(alloc: Global, tag: &[u8], flags: Flags, number: u64) -> ([u8; 76], [u8; 16]) {
+    let primary = filled(alloc, KEY, b"");
+    let rollback = filled(alloc, KEY, tag);
+    let mut store = SecureStore::new(primary, rollback, &ROOT, number);
+    let _ = store.set(1, KEY, VALUE, flags);
+    let (mut primary, mut rollback) = store.into_parts();
+    let mut record = [0; 76];
+    let mut mirrored = [0; 16];
+    let _ = primary.get(KEY, 0, &mut record);
+    let _ = rollback.get(KEY, 0, &mut mirrored);
+    (record, mirrored)
+}
+
+// A set seals byte by byte as another implementation does.
+#[test]
+fn a_set_seals_its_record(rt: HostRuntime) -> Result<(), Fail> {
+    let (record, tag) = sealed(
+        rt.alloc(),
+        &PRIOR,
+        Flags { bits: 11 },
+        0x0102_0304_0506_0708,
+    );
+    assert_eq!(rt; record, SECOND);
+    assert_eq!(rt; tag, SECOND_TAG);
+    let (record, tag) = sealed(rt.alloc(), b"", Flags::NONE, 5);
+    assert_eq!(rt; record, PLAIN);
+    assert_eq!(rt; tag, [0; 16]);
+    Ok(())
+}
+
+// The answers to two sets of a key and to a read, what the read gives, and the next number.
+fn set_twice(alloc: Global, first: u32, second: u32) -> ([u8; 3], [u8; 20], u64) {
+    let primary = filled(alloc, KEY, b"");
+    let rollback = filled(alloc, KEY, b"");
+    let mut store = SecureStore::new(primary, rollback, &ROOT, 1);
+    let one = number_of(store.set(1, KEY, VALUE, Flags { bits: first }));
+    let two = number_of(store.set(1, KEY, b"01234567890123456789", Flags { bits: second }));
+    let mut buf = [7; 20];
+    let three = match store.get(KEY, 0, &mut buf) {
+        Ok(_) => 0,
+        Err(refusal) => refusal.number(),
+    };
+    let number = store.iv();
+    let (_, _) = store.into_parts();
+    ([one, two, three], buf, number)
+}
+
+// A value is got back as it was set, and a set with any flag takes a number. A key that is mirrored
+// stays so, and one that is write-once can't be set again.
+#[test]
+fn values_are_set_and_replaced(rt: HostRuntime) -> Result<(), Fail> {
+    let cases: [(u32, u32, [u8; 3], u64); 14] = [
+        (0, 0, [0, 0, 0], 1),
+        (2, 2, [0, 0, 0], 3),
+        (8, 8, [0, 0, 0], 3),
+        (10, 8, [0, 0, 0], 3),
+        (0, 8, [0, 0, 0], 2),
+        (2, 0, [0, 0, 0], 2),
+        (8, 9, [0, 0, 0], 3),
+        (8, 0, [0, 3, 0], 2),
+        (8, 2, [0, 3, 0], 2),
+        (1, 1, [0, 5, 0], 2),
+        (1, 0, [0, 5, 0], 2),
+        (9, 8, [0, 5, 0], 2),
+        (0, 4, [0, 3, 0], 1),
+        (0, 16, [0, 3, 0], 1),
+    ];
+    for (first, second, answers, number) in cases.iter() {
+        let alloc = rt.alloc();
+        let (given, buf, next) = set_twice(alloc, *first, *second);
+        assert_eq!(rt; given, *answers);
+        let wanted = if answers[1] == 0 {
+            *b"01234567890123456789"
+        } else {
+            *VALUE
+        };
+        assert_eq!(rt; buf, wanted);
+        assert_eq!(rt; next, *number);
+    }
+    Ok(())
+}
+
+// The answer to a set of a value of so many bytes, and the next number.
+fn set_long(alloc: Global, key: &[u8], value: &[u8], flags: u32, number: u64) -> (u8, u64) {
+    let primary = filled(alloc, KEY, b"");
+    let rollback = filled(alloc, KEY, b"");
+    let mut store = SecureStore::new(primary, rollback, &ROOT, number);
+    let answer = number_of(store.set(1, key, value, Flags { bits: flags }));
+    let next = store.iv();
+    let (_, _) = store.into_parts();
+    (answer, next)
+}
+
+// A set that is refused takes no number.
+#[test]
+fn refused_sets_take_no_number(rt: HostRuntime) -> Result<(), Fail> {
+    let last = u64::MAX;
+    let long = [1; 4096];
+    assert_eq!(rt; set_long(rt.alloc(), KEY, VALUE, 2, last), (18, last));
+    assert_eq!(rt; set_long(rt.alloc(), KEY, VALUE, 0, last), (0, last));
+    assert_eq!(rt; set_long(rt.alloc(), KEY, VALUE, 2, last - 1), (0, last));
+    assert_eq!(rt; set_long(rt.alloc(), KEY, &long, 2, 7), (6, 7));
+    assert_eq!(rt; set_long(rt.alloc(), b"a/b", VALUE, 2, 7), (2, 7));
+    Ok(())
+}
+
+// A value of several pieces is got back.
+#[test]
+fn a_long_value_is_set(rt: HostRuntime) -> Result<(), Fail> {
+    let alloc = rt.alloc();
+    let primary = filled(alloc, KEY, b"");
+    let rollback = filled(alloc, KEY, b"");
+    let mut store = SecureStore::new(primary, rollback, &ROOT, 1);
+    let value = [0x5a; 150];
+    let mut buf = [7; 150];
+    let one = number_of(store.set(1, KEY, &value, Flags { bits: 10 }));
+    let two = match store.get(KEY, 0, &mut buf) {
+        Ok(_) => 0,
+        Err(refusal) => refusal.number(),
+    };
+    let (_, _) = store.into_parts();
+    assert_eq!(rt; [one, two], [0, 0]);
+    assert_eq!(rt; buf, value);
     Ok(())
 }

@@ -22,14 +22,15 @@ pub enum Mirror {
     Tag([u8; 16]),
 }
 
-fn is_mirrored(flags: Flags) -> bool
+/// A key with either flag has its tag in the rollback store.
+pub(crate) fn is_mirrored(flags: Flags) -> bool
     ensures { result ≡ is_mirrored flags.bits }
 {
     flags.bits % 2 == 1 || (flags.bits / 8) % 2 == 1
 }
 
-// Reads what the rollback store has for a key.
-fn find_tag<R: Kv>(rollback: &mut R, key: &[u8]) -> Result<Mirror, KvError>
+/// Reads what the rollback store has for a key.
+pub(crate) fn find_tag<R: Kv>(rollback: &mut R, key: &[u8]) -> Result<Mirror, KvError>
     requires { is_key key.now ≡ true }
     ensures read { HasRead (R.state rollback.old) (R.state rollback.new) }
     ensures refusal { IfErr result (IsUnread (R.state rollback.old) (R.state rollback.new)) }

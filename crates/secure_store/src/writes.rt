@@ -1,14 +1,17 @@
 // The calls of a secure store that write.
+ghost use Rattle.std.specs.Prelude.{◌≡◌, true, None, is_none};
 ghost use Rattle.kv_model.specs.Given.{done_or};
 ghost use Rattle.kv_model.specs.Kv.{Answers, answered};
 ghost use Rattle.kv_model.specs.Operations.{Remove, Reset};
 ghost use Rattle.secure_store.specs.SecureState.{state_in};
 ghost use Rattle.secure_store.specs.SecureStep.{secure_rules};
 
+use crate::active::check_free;
 use crate::asking::Asking;
 use crate::doubt::in_doubt;
+use crate::removing::remove_both;
 use crate::store::SecureStore;
-use crate::writing::{remove_both, reset_both};
+use crate::writing::reset_both;
 use kv_model::{Kv, KvError};
 
 impl<U: Kv, R: Kv> SecureStore<U, R> {
@@ -21,6 +24,24 @@ impl<U: Kv, R: Kv> SecureStore<U, R> {
         if self.stopped.is_some() {
             return Err(KvError::Stopped);
         }
+        match check_free(&self.active, who) {
+            Ok(()) => self.remove_free(who, key),
+            Err(refusal) => {
+                if !kv_model::is_key(key) {
+                    return Err(KvError::InvalidKey);
+                }
+                Err(refusal)
+            }
+        }
+    }
+
+    // The same where no set is active.
+    fn remove_free(&mut self, who: u8, key: &[u8]) -> Result<(), KvError>
+        requires running { is_none self.old.stopped ≡ true }
+        requires free { self.old.active ≡ None }
+        ensures { Answers secure_rules (state_in self.old) (state_in self.new)
+            (answered who (Remove key.now) (done_or result)) }
+    {
         let note = in_doubt(self, who, Asking::Remove { key });
         match remove_both(&mut self.primary, &mut self.rollback, who, key) {
             Ok(()) => Ok(()),
@@ -41,6 +62,19 @@ impl<U: Kv, R: Kv> SecureStore<U, R> {
         if self.stopped.is_some() {
             return Err(KvError::Stopped);
         }
+        match check_free(&self.active, who) {
+            Ok(()) => self.reset_free(who),
+            Err(refusal) => Err(refusal),
+        }
+    }
+
+    // The same where no set is active.
+    fn reset_free(&mut self, who: u8) -> Result<(), KvError>
+        requires running { is_none self.old.stopped ≡ true }
+        requires free { self.old.active ≡ None }
+        ensures { Answers secure_rules (state_in self.old) (state_in self.new)
+            (answered who Reset (done_or result)) }
+    {
         let note = in_doubt(self, who, Asking::Reset);
         match reset_both(&mut self.primary, &mut self.rollback, who) {
             Ok(()) => Ok(()),

@@ -7,6 +7,7 @@ use Rattle.kv_model.specs.Operations.{Part}
 use Rattle.secure_store.specs.SecureState.{state_in}
 use Rattle.secure_store.specs.SecureStep.{secure_rules}
 use Rattle.secure_store.specs.Store.{OwnsWhole}
+use Rattle.secure_store.specs.Active.{own_of}
 use Rattle.secure_store.specs.Pair.{Joining, pair}
 use Rattle.secure_store.proofs.SettleLemmas.{at_running}
 use Rattle.secure_store.proofs.StoreReadLemmas.{part_bad}
@@ -28,9 +29,9 @@ returns-in-Ok-clause-own g c =
 
 pub returns-in-Err-clause-answers : goal.returns-in-Err-clause-answers
 returns-in-Err-clause-answers g c who =
-    at_running c.args.self.now.stopped c.requires c.args.self.now.iv (λ (j : Joining). Answers secure_rules
+    at_running c.args.self.now.stopped c.requires (own_of c.args.self.now.iv c.args.self.now.active) (λ (j : Joining). Answers secure_rules
     (pair c.args.self.now.root j (g.U.Kv.state c.args.self.now.primary) (g.R.Kv.state c.args.self.now.rollback))
     (pair c.args.self.now.root j (g.U.Kv.state c.args.self.now.primary) (g.R.Kv.state c.args.self.now.rollback))
     (answered who (Part c.args.key.now c.args.offset (length c.args.buf.now)) (Refused c.in-Err.refusal)))
-    (part_bad c.args.self.now.root c.args.self.now.iv (g.U.Kv.state c.args.self.now.primary) (g.R.Kv.state c.args.self.now.rollback) who c.args.key.now c.args.offset
+    (part_bad c.args.self.now.root (own_of c.args.self.now.iv c.args.self.now.active) (g.U.Kv.state c.args.self.now.primary) (g.R.Kv.state c.args.self.now.rollback) who c.args.key.now c.args.offset
     (length c.args.buf.now) c.in-Err.refusal c.in-Err.ensures)

@@ -1,0 +1,99 @@
+-- A set that is refused while a set is active, with no call of either store.
+use Rattle.std.proofs.Common.{◌≡◌, ℕ, Bool, true, false, List, length, Option, Some, None, refl, sym, ◌∙◌, ap, subst}
+use Rattle.std.specs.Prelude.{◌==◌, if◌then◌else◌, nat_lt, is_none, is_some, IsTrue}
+use mathlib.Core.Bool.{false≢true}
+use Rattle.kv_model.specs.declared.error.KvError.{KvError}
+use Rattle.kv_model.specs.declared.error.KvError.TheVariants.{Busy, SetOpen}
+use Rattle.kv_model.specs.declared.call.Reply.TheVariants.{Refused}
+use Rattle.kv_model.specs.Constants.{Constants}
+use Rattle.kv_model.specs.Flags.{is_secure_flags}
+use Rattle.kv_model.specs.Keys.{is_key}
+use Rattle.kv_model.specs.StoreState.{OpenSet, StoreState}
+use Rattle.kv_model.specs.Operations.{Operation, Set}
+use Rattle.kv_model.specs.Rules.{Outcome, Rules, refuses, step}
+use Rattle.kv_model.specs.Kv.{Answers, IsCause, Kind, KvState, LeadsTo, answered, kind_of, may_end, Ruled}
+use Rattle.store_note.specs.declared.noted.Noted.{Noted}
+use Rattle.secure_store.specs.declared.active.Active.{Active}
+use Rattle.secure_store.specs.declared.active.Begun.{Begun}
+use Rattle.secure_store.specs.declared.active.Begun.TheVariants as begun
+use Rattle.secure_store.specs.declared.limits.TheConstants.{MAX_SECURE_VALUE}
+use Rattle.secure_store.specs.Active.{opened_by, own_of, taken}
+use Rattle.secure_store.specs.Doubts.{joining_of, noted_in}
+use Rattle.secure_store.specs.Pair.{pair, pair_constants}
+use Rattle.secure_store.specs.SecureStep.{secure_rules}
+use Rattle.secure_store.specs.Store.{Own, joined_by}
+use Rattle.secure_store.proofs.PairLemmas.{read_answers, read_none}
+use Rattle.secure_store.proofs.SettleLemmas.{running_answers}
+
+module _ (root : List ℕ) (own : Own) (u r : KvState) where
+  abbrev one : KvState
+  one = pair root (joined_by own) u r
+
+  abbrev rules : Rules
+  rules = secure_rules (pair_constants root u.known.constants r.known.constants)
+
+  -- a refusal by the rules
+  refused_here : (who : ℕ) (operation : Operation) (e : KvError) → kind_of (Refused e) ≡ Ruled → IsCause one.known one.known (Refused e)
+      → ((above below : StoreState) → step rules (joined_by own above below) who operation ≡ refuses (joined_by own above below) e)
+      → Answers secure_rules one one (answered who operation (Refused e))
+  refused_here who operation e ruled cause refused =
+      read_answers root u u r r secure_rules (joined_by own) (answered who operation (Refused e)) (read_none u) (read_none r) cause
+      (subst (λ (kind : Kind). IsTrue (may_end operation kind)) (sym ruled) refl)
+      (λ above below told told_too. record {
+        primary = refl;
+        rollback = refl;
+        stays = ap (λ (o : Outcome). o.state) (refused above below);
+        leads = subst (λ (kind : Kind). LeadsTo rules (joined_by own above below) (answered who operation (Refused e)) (joined_by own above below) kind) (sym ruled) (refused above below);
+      })
+
+owner_is : (owner : ℕ) (its : Begun) → (opened_by owner its).owner ≡ owner
+owner_is owner (begun.Remove key) = refl
+
+taken_is : (x y : KvError) → Some x ≡ Some y → y ≡ x
+taken_is x y is = cc
+
+module _ (key value : List ℕ) (flags : ℕ) (good : is_key key ≡ true) (secure : is_secure_flags flags ≡ true) (small : nat_lt MAX_SECURE_VALUE (length value) ≡ false) where
+  module _ (c : Constants) (n : ℕ) (set : OpenSet) (above below : StoreState) (who : ℕ) where
+    abbrev state : StoreState
+    state = joined_by (record { number = n; set = Some set }) above below
+
+    own_taken : (set.owner == who) ≡ true → step (secure_rules c) state who (Set key value flags) ≡ refuses state SetOpen
+    own_taken is = simp (good, secure, small, is) refl
+
+    other_taken : (set.owner == who) ≡ false → step (secure_rules c) state who (Set key value flags) ≡ refuses state (Busy set.owner)
+    other_taken is = simp (good, secure, small, is) refl
+
+  module _ (root : List ℕ) (n : ℕ) (u r : KvState) (who : ℕ) (owner : ℕ) (its : Begun) where
+    abbrev own : Own
+    own = record { number = n; set = Some (opened_by owner its) }
+
+    abbrev with_set : KvState
+    with_set = pair root (joined_by own) u r
+
+    taken_by : (b : Bool) → (owner == who) ≡ b → Answers secure_rules with_set with_set (answered who (Set key value flags) (Refused (if b then SetOpen else Busy owner)))
+    taken_by true is =
+        refused_here root own u r who (Set key value flags) SetOpen refl tt
+        (λ above below. own_taken (pair_constants root u.known.constants r.known.constants) n (opened_by owner its) above below who
+        (ap (λ (o : ℕ). o == who) (owner_is owner its) ∙ is))
+    taken_by false is =
+        refused_here root own u r who (Set key value flags) (Busy owner) refl tt
+        (λ above below. other_taken (pair_constants root u.known.constants r.known.constants) n (opened_by owner its) above below who
+        (ap (λ (o : ℕ). o == who) (owner_is owner its) ∙ is)
+        ∙ ap (λ (o : ℕ). refuses (joined_by own above below) (Busy o)) (owner_is owner its))
+
+  taken_at : (active : Option Active) (root : List ℕ) (n : ℕ) (u r : KvState) (who : ℕ) (e : KvError) → taken active who ≡ Some e
+      → Answers secure_rules (pair root (joined_by (own_of n active)) u r) (pair root (joined_by (own_of n active)) u r) (answered who (Set key value flags) (Refused e))
+  taken_at None root n u r who e is = absurd (false≢true (ap is_some is))
+  taken_at (Some active) root n u r who e is =
+      subst (λ (f : KvError). Answers secure_rules (pair root (joined_by (own_of n (Some active))) u r) (pair root (joined_by (own_of n (Some active))) u r) (answered who (Set key value flags) (Refused f)))
+      (sym (taken_is (if active.owner == who then SetOpen else Busy active.owner) e is))
+      (taken_by root n u r who active.owner active.begun (active.owner == who) refl)
+
+  module _ (stopped : Option Noted) (running : is_none stopped ≡ true) (root : List ℕ) (number : ℕ) (active : Option Active) (u r : KvState) (who : ℕ) where
+    abbrev here : KvState
+    here = pair root (joining_of (own_of number active) (noted_in stopped)) u r
+
+    pub taken_answers : (e : KvError) → taken active who ≡ Some e → Answers secure_rules here here (answered who (Set key value flags) (Refused e))
+    taken_answers e is =
+        running_answers stopped running root (own_of number active) (own_of number active) u r u r (answered who (Set key value flags) (Refused e))
+        (taken_at active root number u r who e is)
