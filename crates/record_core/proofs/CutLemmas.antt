@@ -16,7 +16,7 @@ use Rattle.flash_core.proofs.ImageLaws.{Torn-put, Torn-trans, Torn-widen, after_
 use Rattle.kv_model.specs.Keys.{is_key}
 use Rattle.kv_model.specs.Write.{Write}
 use Rattle.record_core.specs.Chance.{AllStand, FirstBreak, NoChance}
-use Rattle.record_core.specs.CutMoments.{CutStrictly, HoldsOneOf, IsCut, MayAppend, with_record}
+use Rattle.record_core.specs.CutMoments.{CutStrictly, HoldsOneOf, IsCut, IsHeaderOrFirstUnit, MayAppend, with_record}
 use Rattle.record_core.specs.Cuts.{IsApartFromMaster, IsHeaderCall, base_of}
 use Rattle.record_core.specs.Header.{IsHeader}
 use Rattle.record_core.specs.Log.{AreAllRecords, extent, spelling_of}
@@ -31,16 +31,16 @@ use Rattle.record_core.proofs.RecordLemmas.{length-record_bytes, length-record_h
 use Rattle.record_core.proofs.TornLemmas.{apart_behind_end, contents_stay, end_behind_master, master_stays, one_base, torn_header, zero_base}
 use Rattle.record_core.proofs.WriterLemmas.{put-before}
 
-module _ (g : Geometry) (valid : IsValid g) (P : List ℕ → Type 0) (before after torn : List ℕ) (place : ℕ) where
+module _ (g : Geometry) (valid : IsValid g) (P : List ℕ → Type 0) (before after torn : List ℕ) (place size : ℕ) where
   -- nothing is there by chance
-  pub cut_sound : P torn → NoChance g before after torn → IsCut g P before after torn place
+  pub cut_sound : P torn → NoChance g before after torn → IsCut g P before after torn place size
   cut_sound holds chance = record { holds = λ _. holds; first = λ at first. absurd (chance_excludes_break g valid before after torn at chance first) }
 
-  -- or something is, first at this place
-  pub cut_break : FirstBreak g before after torn place → IsCut g P before after torn place
-  cut_break breaks = record {
+  -- or something is, first at this place, in such a range
+  pub cut_break : IsHeaderOrFirstUnit g place size → FirstBreak g before after torn place → IsCut g P before after torn place size
+  cut_break range breaks = record {
     holds = λ chance. absurd (chance_excludes_break g valid before after torn place chance breaks);
-    first = λ at first. one_first_break g valid before after torn at place first breaks;
+    first = λ at first. (one_first_break g valid before after torn at place first breaks, range);
   }
 
 -- what is held as before is there by no chance
@@ -51,13 +51,13 @@ same_chance g valid before after torn c was is d held =
 
 -- a moment inside a call, by its two whole images
 pub call_cut : (g : Geometry) (P : List ℕ → Type 0) (image : List ℕ) (place : ℕ) (bytes : List ℕ) → place + length bytes ≤ length image → (call : DeviceCall) (c : List ℕ) → IsMomentWithin image place bytes (Some call) c
-    → IsCut g P image (put image place bytes) c place → CutStrictly g P (Some call) c
+    → IsCut g P image (put image place bytes) c place (length bytes) → CutStrictly g P (Some call) c
 call_cut g P image place bytes fits call c moment cut =
     let at : DeviceCall = call_at image place bytes in
     let before : before_of at c ≡ image = before_of_call image place bytes fits c moment.1 in
     let after : after_of at c ≡ put image place bytes = after_of_call image place bytes fits c moment.1 in
-    let of_at : IsCut g P (before_of at c) (after_of at c) c place =
-    subst (λ (a : List ℕ). IsCut g P (before_of at c) a c place) (sym after) (subst (λ (b : List ℕ). IsCut g P b (put image place bytes) c place) (sym before) cut) in
+    let of_at : IsCut g P (before_of at c) (after_of at c) c place (length bytes) =
+    subst (λ (a : List ℕ). IsCut g P (before_of at c) a c place (length bytes)) (sym after) (subst (λ (b : List ℕ). IsCut g P b (put image place bytes) c place (length bytes)) (sym before) cut) in
     subst (λ (k : DeviceCall). CutStrictly g P (Some k) c) (sym moment.0) of_at
 
 module _ (g : Geometry) (valid : IsValid g) (image : List ℕ) (sized : length image ≡ size_of g) (c : Contents) (k : ℕ) (r : Write) (may : MayAppend g image c k r) where
@@ -121,7 +121,7 @@ module _ (g : Geometry) (valid : IsValid g) (image : List ℕ) (sized : length i
       let is : Torn behind (length payload) image now =
       Torn-trans was (Torn-widen (behind + done) (length piece) behind (length payload) (omega arith) (omega (arith, long, units.within)) units.moment.1) in
       call_cut g (HoldsOneOf g c r) so_far (behind + done) piece (omega (arith, whole, long, units.within, record_fits)) call now units.moment
-      (cut_sound g valid (HoldsOneOf g c r) so_far (put so_far (behind + done) piece) now (behind + done) (inl (payload_stays now is))
+      (cut_sound g valid (HoldsOneOf g c r) so_far (put so_far (behind + done) piece) now (behind + done) (length piece) (inl (payload_stays now is))
       (same_chance g valid so_far (put so_far (behind + done) piece) now c (payload_stays so_far was) (payload_stays now is)))
 
   -- ---- the whole record
@@ -183,7 +183,7 @@ module _ (g : Geometry) (valid : IsValid g) (image : List ℕ) (sized : length i
     after_holds : Holds g (put (payload_put image c.end header payload) c.end header) (with_record g.prog r c)
     after_holds = subst (λ (l : List ℕ). Holds g l (with_record g.prog r c)) (sym spelled) (holds_more valid_key valid_header)
 
-    header_cut : (now : List ℕ) → Torn c.end (length header) ahead now → IsCut g (HoldsOneOf g c r) ahead (put ahead c.end header) now c.end
+    header_cut : (now : List ℕ) → Torn c.end (length header) ahead now → IsCut g (HoldsOneOf g c r) ahead (put ahead c.end header) now c.end (length header)
     header_cut now torn =
         let call : IsHeaderCall g ahead (put ahead c.end header) now c k (length header) = record {
           holds = ahead_holds;
@@ -194,11 +194,11 @@ module _ (g : Geometry) (valid : IsValid g) (image : List ℕ) (sized : length i
           cut = record { whole = Torn-put ahead c.end header (omega (arith, ahead_long, record_fits)); cut = torn };
         } in
         ⊎_elim
-        (λ same. cut_sound g valid (HoldsOneOf g c r) ahead (put ahead c.end header) now c.end (inl same) (same_chance g valid ahead (put ahead c.end header) now c ahead_holds same))
+        (λ same. cut_sound g valid (HoldsOneOf g c r) ahead (put ahead c.end header) now c.end (length header) (inl same) (same_chance g valid ahead (put ahead c.end header) now c ahead_holds same))
         (⊎_elim
-        (λ whole. subst (λ (l : List ℕ). IsCut g (HoldsOneOf g c r) ahead (put ahead c.end header) l c.end) (sym whole)
-        (cut_sound g valid (HoldsOneOf g c r) ahead (put ahead c.end header) (put ahead c.end header) c.end (inr after_holds) (no_chance_after g valid ahead (put ahead c.end header))))
-        (λ breaks. cut_break g valid (HoldsOneOf g c r) ahead (put ahead c.end header) now c.end breaks))
+        (λ whole. subst (λ (l : List ℕ). IsCut g (HoldsOneOf g c r) ahead (put ahead c.end header) l c.end (length header)) (sym whole)
+        (cut_sound g valid (HoldsOneOf g c r) ahead (put ahead c.end header) (put ahead c.end header) c.end (length header) (inr after_holds) (no_chance_after g valid ahead (put ahead c.end header))))
+        (λ breaks. cut_break g valid (HoldsOneOf g c r) ahead (put ahead c.end header) now c.end (length header) (inl header_long) breaks))
         (torn_header g valid ahead (put ahead c.end header) now (ahead_long ∙ sized) c k (length header) call)
 
     header_cuts : (call : Option DeviceCall) (now : List ℕ) → IsMomentWithin ahead c.end header call now → CutStrictly g (HoldsOneOf g c r) call now

@@ -37,7 +37,7 @@ module _ (g : Geometry) (valid : IsValid g) (image : List ℕ) (sized : length i
   payload_cuts (Some call) now inside =
       let was : Holds g (before_of call now) c = begun_stays (before_of call now) inside.torn_before in
       let is : Holds g now c = begun_stays now inside.torn in
-      cut_sound g valid (λ left. Holds g left c) (before_of call now) (after_of call now) now call.place is
+      cut_sound g valid (λ left. Holds g left c) (before_of call now) (after_of call now) now call.place (length call.after) is
       (same_chance g valid (before_of call now) (after_of call now) now c was is)
 
   module _ (W : List ℕ → Type 0) (filled header : List ℕ) (fills : InPayload g c.end n image None filled) (long : length header ≡ up g.prog 24) (whole : W (put filled c.end header)) where
@@ -47,7 +47,7 @@ module _ (g : Geometry) (valid : IsValid g) (image : List ℕ) (sized : length i
     header_inside : c.end + length header ≤ length filled
     header_inside = omega (arith, long, begun.inside.to, area_inside g valid k begun.inside.number filled filled_sized)
 
-    header_cut : (now : List ℕ) → Torn c.end (length header) filled now → IsCut g (λ left. Holds g left c ⊎ W left) filled (put filled c.end header) now c.end
+    header_cut : (now : List ℕ) → Torn c.end (length header) filled now → IsCut g (λ left. Holds g left c ⊎ W left) filled (put filled c.end header) now c.end (length header)
     header_cut now torn =
         let P : List ℕ → Type 0 = λ left. Holds g left c ⊎ W left in
         let after : List ℕ = put filled c.end header in
@@ -61,11 +61,11 @@ module _ (g : Geometry) (valid : IsValid g) (image : List ℕ) (sized : length i
           cut = record { whole = Torn-put filled c.end header header_inside; cut = torn };
         } in
         ⊎_elim
-        (λ same. cut_sound g valid P filled after now c.end (inl same) (same_chance g valid filled after now c held same))
+        (λ same. cut_sound g valid P filled after now c.end (length header) (inl same) (same_chance g valid filled after now c held same))
         (⊎_elim
-        (λ is. subst (λ (l : List ℕ). IsCut g P filled after l c.end) (sym is)
-        (cut_sound g valid P filled after after c.end (inr whole) (no_chance_after g valid filled after)))
-        (λ breaks. cut_break g valid P filled after now c.end breaks))
+        (λ is. subst (λ (l : List ℕ). IsCut g P filled after l c.end (length header)) (sym is)
+        (cut_sound g valid P filled after after c.end (length header) (inr whole) (no_chance_after g valid filled after)))
+        (λ breaks. cut_break g valid P filled after now c.end (length header) (inl long) breaks))
         (torn_header g valid filled after now filled_sized c k (length header) call)
 
     header_cuts : (call : Option DeviceCall) (now : List ℕ) → IsMomentWithin filled c.end header call now → CutStrictly g (λ left. Holds g left c ⊎ W left) call now

@@ -59,7 +59,7 @@ module _ (g : Geometry) (valid : IsValid g) (image : List ℕ) (sized : length i
       (Torn-erased image 0 (suc n * g.erase) (area_size g) within fits)
 
   erase_cut : (units : ℕ) → units < g.units_per_area → (now : List ℕ) → Torn (0 + units * g.erase) g.erase (erased_from image 0 (units * g.erase)) now
-      → IsCut g (λ i. Holds g i no_contents) (erased_from image 0 (units * g.erase)) (put (erased_from image 0 (units * g.erase)) (0 + units * g.erase) (replicate g.erase 255)) now (0 + units * g.erase)
+      → IsCut g (λ i. Holds g i no_contents) (erased_from image 0 (units * g.erase)) (put (erased_from image 0 (units * g.erase)) (0 + units * g.erase) (replicate g.erase 255)) now (0 + units * g.erase) (length (replicate {A = ℕ} g.erase 255))
   erase_cut zero less now torn =
       let before : List ℕ = erased_from image 0 (0 * g.erase) in
       let at : 0 + 0 * g.erase ≡ base_of g 0 = omega (arith, zero-mul g.erase, zero_base g) in
@@ -79,10 +79,10 @@ module _ (g : Geometry) (valid : IsValid g) (image : List ℕ) (sized : length i
       } in
       let erased : get_or after (base_of g 0) 0 ≡ 255 =
       ap (λ (p : ℕ). get_or after p 0) (zero_base g) ∙ IsErased-put before (0 + 0 * g.erase) g.erase (omega (arith, long, sized, size-areas g, unit_in, zero-mul g.erase)) 0 (omega (arith, zero-mul g.erase)) (omega (arith, valid.erase_positive, zero-mul g.erase)) in
-      let sound : Holds g now no_contents → IsCut g (λ i. Holds g i no_contents) before after now (0 + 0 * g.erase) =
-      λ same. cut_sound g valid (λ i. Holds g i no_contents) before after now (0 + 0 * g.erase) same (same_chance g valid before after now no_contents held same) in
+      let sound : Holds g now no_contents → IsCut g (λ i. Holds g i no_contents) before after now (0 + 0 * g.erase) (length (replicate {A = ℕ} g.erase 255)) =
+      λ same. cut_sound g valid (λ i. Holds g i no_contents) before after now (0 + 0 * g.erase) (length (replicate {A = ℕ} g.erase 255)) same (same_chance g valid before after now no_contents held same) in
       ⊎_elim sound (⊎_elim sound
-      (λ breaks. cut_break g valid (λ i. Holds g i no_contents) before after now (0 + 0 * g.erase) (subst (FirstBreak g before after now) (sym at) breaks)))
+      (λ breaks. cut_break g valid (λ i. Holds g i no_contents) before after now (0 + 0 * g.erase) (length (replicate {A = ℕ} g.erase 255)) (inr (n_is, inl at)) (subst (FirstBreak g before after now) (sym at) breaks)))
       (torn_erase g valid before after now (long ∙ sized) no_contents 0 g.erase call erased)
   erase_cut (suc n) less now torn =
       let before : List ℕ = erased_from image 0 (suc n * g.erase) in
@@ -95,7 +95,7 @@ module _ (g : Geometry) (valid : IsValid g) (image : List ℕ) (sized : length i
       let first : get_or before 0 0 ≡ 255 = IsErased-erased image 0 (suc n * g.erase) fits 0 (omega arith) (omega (arith, some)) in
       let is : Holds g now no_contents = blank_holds now (torn.below 0 (omega (arith, some)) ∙ first)
       (Torn-trans (Torn-erased image 0 (suc n * g.erase) (area_size g) (omega (arith, within, next)) fits) (Torn-widen (0 + suc n * g.erase) g.erase 0 (area_size g) (omega arith) (omega (arith, within, next)) torn)) in
-      cut_sound g valid (λ i. Holds g i no_contents) before after now (0 + suc n * g.erase) is (same_chance g valid before after now no_contents held is)
+      cut_sound g valid (λ i. Holds g i no_contents) before after now (0 + suc n * g.erase) (length (replicate {A = ℕ} g.erase 255)) is (same_chance g valid before after now no_contents held is)
 
   -- each moment of the erases leaves no valid area
   pub erases_cuts : (call : Option DeviceCall) (now : List ℕ) → ErasesUnits g 0 g.units_per_area image call now → CutStrictly g (λ i. Holds g i no_contents) call now

@@ -1,6 +1,7 @@
 pub mod AnswerLemmas
 pub mod ChanceLemmas
 pub mod CrcByTable
+pub mod CrcBySlice
 pub mod CutLemmas
 pub mod EndingLemmas
 pub mod Existence

@@ -71,7 +71,7 @@ module _ (g : Geometry) (valid : IsValid g) (image : List ℕ) (sized : length i
   behind_cuts (Some call) now inside =
       let was : Holds g (before_of call now) c = blank_stays (before_of call now) inside.torn_before in
       let is : Holds g now c = blank_stays now inside.torn in
-      cut_sound g valid (λ left. Holds g left c) (before_of call now) (after_of call now) now call.place is
+      cut_sound g valid (λ left. Holds g left c) (before_of call now) (after_of call now) now call.place (length call.after) is
       (same_chance g valid (before_of call now) (after_of call now) now c was is)
 
   no_version : version_of k c ≡ None
@@ -85,7 +85,7 @@ module _ (g : Geometry) (valid : IsValid g) (image : List ℕ) (sized : length i
     header_inside : base_of g k + length header ≤ length filled
     header_inside = omega (arith, long, header_in_area g valid k blank.spare.number image sized, area_inside g valid k blank.spare.number filled filled_sized)
 
-    header_cut : (now : List ℕ) → Torn (base_of g k) (length header) filled now → IsCut g (λ left. Holds g left c ⊎ W left) filled (put filled (base_of g k) header) now (base_of g k)
+    header_cut : (now : List ℕ) → Torn (base_of g k) (length header) filled now → IsCut g (λ left. Holds g left c ⊎ W left) filled (put filled (base_of g k) header) now (base_of g k) (length header)
     header_cut now torn =
         let P : List ℕ → Type 0 = λ left. Holds g left c ⊎ W left in
         let after : List ℕ = put filled (base_of g k) header in
@@ -97,14 +97,14 @@ module _ (g : Geometry) (valid : IsValid g) (image : List ℕ) (sized : length i
           inside = omega (arith, long, header_in_area g valid k blank.spare.number image sized);
           cut = record { whole = Torn-put filled (base_of g k) header header_inside; cut = torn };
         } in
-        let same : Holds g now c → IsCut g P filled after now (base_of g k) =
-        λ is. cut_sound g valid P filled after now (base_of g k) (inl is) (same_chance g valid filled after now c held is) in
+        let same : Holds g now c → IsCut g P filled after now (base_of g k) (length header) =
+        λ is. cut_sound g valid P filled after now (base_of g k) (length header) (inl is) (same_chance g valid filled after now c held is) in
         ⊎_elim same
         (⊎_elim (λ without. same (subst (Holds g now) (with_none k c no_version) without))
         (⊎_elim
-        (λ is. subst (λ (l : List ℕ). IsCut g P filled after l (base_of g k)) (sym is)
-        (cut_sound g valid P filled after after (base_of g k) (inr whole) (no_chance_after g valid filled after)))
-        (λ breaks. cut_break g valid P filled after now (base_of g k) breaks)))
+        (λ is. subst (λ (l : List ℕ). IsCut g P filled after l (base_of g k) (length header)) (sym is)
+        (cut_sound g valid P filled after after (base_of g k) (length header) (inr whole) (no_chance_after g valid filled after)))
+        (λ breaks. cut_break g valid P filled after now (base_of g k) (length header) (inl long) breaks)))
         (torn_master_header g valid filled after now filled_sized c k (length header) call (omega (arith, long)))
 
     pub header_cuts : (call : Option DeviceCall) (now : List ℕ) → IsMomentWithin filled (base_of g k) header call now → CutStrictly g (λ left. Holds g left c ⊎ W left) call now
@@ -127,6 +127,9 @@ module _ (g : Geometry) (valid : IsValid g) (image : List ℕ) (sized : length i
 
   unit_long : length (replicate {A = ℕ} g.erase 255) ≡ g.erase
   unit_long = length-replicate g.erase 255
+
+  area_number : (base_of g k ≡ base_of g 0) ⊎ (base_of g k ≡ base_of g 1)
+  area_number = ⊎_elim (λ first. inl (ap (base_of g) first)) (λ second. inr (ap (base_of g) second)) spare.number
 
   unit_inside : base_of g k + g.erase ≤ length image
   unit_inside = omega (arith, erase_le_area g valid, area_inside g valid k spare.number image sized)
@@ -165,15 +168,15 @@ module _ (g : Geometry) (valid : IsValid g) (image : List ℕ) (sized : length i
     erased = after_erased;
   }
 
-  erase_cut : (now : List ℕ) → Torn (base_of g k) g.erase image now → IsCut g (HoldsStill g c k) image (blanked g k image) now (base_of g k)
+  erase_cut : (now : List ℕ) → Torn (base_of g k) g.erase image now → IsCut g (HoldsStill g c k) image (blanked g k image) now (base_of g k) (length (replicate {A = ℕ} g.erase 255))
   erase_cut now torn =
       let P : List ℕ → Type 0 = HoldsStill g c k in
       let after : List ℕ = blanked g k image in
       ⊎_elim
-      (λ same. cut_sound g valid P image after now (base_of g k) (inl same) (same_chance g valid image after now c spare.holds same))
+      (λ same. cut_sound g valid P image after now (base_of g k) (length (replicate {A = ℕ} g.erase 255)) (inl same) (same_chance g valid image after now c spare.holds same))
       (⊎_elim
-      (λ none. cut_sound g valid P image after now (base_of g k) (inr none) (chance_after g valid image after now (with_version k None c) blanked_holds none))
-      (λ breaks. cut_break g valid P image after now (base_of g k) breaks))
+      (λ none. cut_sound g valid P image after now (base_of g k) (length (replicate {A = ℕ} g.erase 255)) (inr none) (chance_after g valid image after now (with_version k None c) blanked_holds none))
+      (λ breaks. cut_break g valid P image after now (base_of g k) (length (replicate {A = ℕ} g.erase 255)) (inr (unit_long, area_number)) breaks))
       (torn_erase g valid image after now sized c k g.erase (erase_call now torn) after_erased)
 
   erase_cuts : (call : Option DeviceCall) (now : List ℕ) → IsMomentWithin image (base_of g k) (replicate g.erase 255) call now → CutStrictly g (HoldsStill g c k) call now

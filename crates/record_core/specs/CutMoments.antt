@@ -1,5 +1,6 @@
 -- What each moment of a call leaves, where a record that nobody wrote isn't there by chance.
-use Rattle.std.specs.Prelude.{◌≡◌, ◌⊎◌, ℕ, ◌+◌, List, [], ◌∷◌, ◌++◌, IsTrue, Option, Some, None, slice_index}
+use Rattle.std.specs.Prelude.{◌≡◌, ◌⊎◌, ℕ, ◌+◌, List, [], ◌∷◌, ◌++◌, length, IsTrue, Option, Some, None, slice_index}
+use Rattle.base_core.specs.Units.{up}
 use Rattle.flash_core.specs.declared.geometry.Geometry.{Geometry}
 use Rattle.flash_core.specs.Sizes.{area_size}
 use Rattle.flash_core.specs.State.{DeviceCall, FlashState, after_of, before_of}
@@ -10,17 +11,21 @@ use Rattle.record_core.specs.Cuts.{IsInArea, active_of, base_of}
 use Rattle.record_core.specs.Log.{extent}
 use Rattle.record_core.specs.Mounts.{Contents, Holds, Mounts}
 
--- Of the image that a cut inside a call leaves P holds, unless it holds a record by chance; the first such record stands
--- at this place.
-pub record IsCut (g : Geometry) (P : List ℕ → Type 0) (before after torn : List ℕ) (place : ℕ) : Type 0 where
+-- the range of a header's program, or of the erase of an area's first unit
+abbrev pub IsHeaderOrFirstUnit : Geometry → ℕ → ℕ → Type 0
+IsHeaderOrFirstUnit g place size = (size ≡ up g.prog 24) ⊎ ((size ≡ g.erase) × ((place ≡ base_of g 0) ⊎ (place ≡ base_of g 1)))
+
+-- Of the image that a cut inside a call on this range leaves P holds, unless it holds a record by chance; the first such
+-- record stands at the range's first byte, and the range is a header's or an area's first unit.
+pub record IsCut (g : Geometry) (P : List ℕ → Type 0) (before after torn : List ℕ) (place size : ℕ) : Type 0 where
   pub holds : NoChance g before after torn → P torn
-  pub first : (at : ℕ) → FirstBreak g before after torn at → at ≡ place
+  pub first : (at : ℕ) → FirstBreak g before after torn at → (at ≡ place) × IsHeaderOrFirstUnit g place size
 
 -- P at a moment between calls, and inside a call as far as chance goes: the first record that is there by chance stands
 -- at the first byte of that call
 abbrev pub CutStrictly : Geometry → (List ℕ → Type 0) → Option DeviceCall → List ℕ → Type 0
 CutStrictly g P None c = P c
-CutStrictly g P (Some call) c = IsCut g P (before_of call c) (after_of call c) c call.place
+CutStrictly g P (Some call) c = IsCut g P (before_of call c) (after_of call c) c call.place (length call.after)
 
 -- what a run may leave at each moment, over the image at its entry, as far as chance goes
 abbrev pub Cuts : Geometry → (List ℕ → List ℕ → Type 0) → List ℕ → Option DeviceCall → List ℕ → Type 0
@@ -30,7 +35,7 @@ Cuts g P image call left = CutStrictly g (P image) call left
 -- tells torn calls it tells this one, unless the image has P whatever chance does.
 pub record FailedStrictly (g : Geometry) (P : List ℕ → Type 0) (s : FlashState) (left : List ℕ) : Type 0 where
   pub call : DeviceCall
-  pub cut : IsCut g P (before_of call left) (after_of call left) left call.place
+  pub cut : IsCut g P (before_of call left) (after_of call left) left call.place (length call.after)
   pub told : IsTrue s.tells_torn → (s.torn ≡ Some call) ⊎ P left
 
 -- the image mounts to one of these two maps

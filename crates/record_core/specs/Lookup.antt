@@ -12,6 +12,7 @@ use Rattle.kv_model.specs.Keys.{is_key}
 use Rattle.base_core.specs.Units.{up}
 use Rattle.base_core.specs.Sizes.{record_size}
 use Rattle.record_core.specs.declared.header.Header.{Header}
+use Rattle.record_core.specs.declared.lookup.KeyedHeader.{KeyedHeader}
 use Rattle.record_core.specs.Header.{IsValid, header_bytes}
 
 -- A fault of a read: the count rose in this call, and the device was not steady.
@@ -59,6 +60,12 @@ pub record HeadBroken (s : FlashState) (place room : ℕ) (e : KvError) : Type 0
 abbrev pub ReadsHeader : FlashState → FlashState → ℕ → ℕ → Result Header KvError → Type 0
 ReadsHeader old new place room result = MatchResult result (HeadSeen old place room) (λ e. IsReadFault old new e ⊎ HeadBroken old place room e)
 
+-- The bytes that were read at this place spell this header, and those behind it are this key.
+pub record KeyedSeen (s : FlashState) (place room : ℕ) (header : Header) (key : List ℕ) : Type 0 where
+  pub head : HeadSeen s place room header
+  pub seen : IsSeen s (place + up s.geometry.prog 24) header.key_size key
+  pub valid : IsTrue (is_key key)
+
 -- The bytes that were read behind the header at this place are this key.
 pub record KeySeen (s : FlashState) (place room : ℕ) (key : List ℕ) : Type 0 where
   pub header : Header
@@ -78,4 +85,9 @@ pub record KeyBroken (s : FlashState) (place room : ℕ) (e : KvError) : Type 0 
 -- the key of the record at this place, or why there is none
 abbrev pub ReadsKey : FlashState → FlashState → ℕ → ℕ → Result (List ℕ) KvError → Type 0
 ReadsKey old new place room result = MatchResult result (KeySeen old place room)
+    (λ e. IsReadFault old new e ⊎ (HeadBroken old place room e ⊎ KeyBroken old place room e))
+
+-- the header of the record at this place with its key, or why there is none
+abbrev pub ReadsKeyed : FlashState → FlashState → ℕ → ℕ → Result KeyedHeader KvError → Type 0
+ReadsKeyed old new place room result = MatchResult result (λ keyed. KeyedSeen old place room keyed.header keyed.key)
     (λ e. IsReadFault old new e ⊎ (HeadBroken old place room e ⊎ KeyBroken old place room e))

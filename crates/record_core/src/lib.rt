@@ -19,6 +19,7 @@ mod lookup;
 mod payload;
 mod range;
 mod reader;
+mod shifts;
 mod size;
 mod writer;
 
@@ -35,7 +36,7 @@ pub use laws::{
     last_record_decides, mounts_once, readers_have_one_answer, record_example,
     records_are_unambiguous, records_go_on, records_stand_where_programmed,
 };
-pub use lookup::{broken_header, read_header_at, read_key_at};
+pub use lookup::{KeyedHeader, broken_header, read_header_at, read_key_at, read_keyed_header_at};
 pub use range::{crc_of_piece, crc_of_range, is_erased_range, read_part};
 pub use reader::{read_master, read_record};
 pub use size::{padded_size, size_of_record};

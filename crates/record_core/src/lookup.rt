@@ -8,7 +8,7 @@ ghost use Rattle.flash_core.specs.Sizes.{IsValid, size_of};
 ghost use Rattle.kv_model.specs.Keys.{is_key};
 ghost use Rattle.record_core.specs.declared.header.Header.{Header};
 ghost use Rattle.record_core.specs.Endings.{kv_ended};
-ghost use Rattle.record_core.specs.Lookup.{HeadBroken, IsHead, IsReadFault, IsSeen, ReadsHeader, ReadsKey, broken_answer};
+ghost use Rattle.record_core.specs.Lookup.{HeadBroken, IsHead, IsReadFault, IsSeen, ReadsHeader, ReadsKey, ReadsKeyed, broken_answer};
 ghost use Rattle.record_core.specs.Reading.{HasRead};
 
 use crate::range::read_part;
@@ -107,9 +107,41 @@ fn read_name<F: Flash>(flash: &mut F, place: u32, size: u16) -> Result<Option<Ke
     }
 }
 
-/// The key of the record at `place` that ends at or before `end`. `Corrupt` comes as from
-/// `read_header_at`, and where what stands behind the header is no key; `ReadFault` comes only
-/// where the device's count of read faults rose. The CRC is not looked at.
+/// The header of a record, and the key behind it.
+#[derive(Drop)]
+pub struct KeyedHeader {
+    pub header: Header,
+    pub key: Key,
+}
+
+/// The header of the record at `place` that ends at or before `end`, and its key. `Corrupt` comes
+/// as from `read_header_at`, and where what stands behind the header is no key; `ReadFault` comes
+/// only where the device's count of read faults rose. The CRC is not looked at.
+pub fn read_keyed_header_at<F: Flash>(
+    flash: &mut F,
+    place: u32,
+    end: u32,
+) -> Result<KeyedHeader, KvError>
+    requires valid { IsValid (F.state flash.old).geometry }
+    requires header { place + 24 ≤ end }
+    requires inside { end ≤ size_of (F.state flash.old).geometry }
+    ensures reads { OnlyReads (F.state flash.old) (F.state flash.new) }
+    ensures counts { IsCounted (F.state flash.old) (F.state flash.new) (kv_ended result) }
+    ensures answer { ReadsKeyed (F.state flash.old) (F.state flash.new) place (end - place) result }
+{
+    let head = read_head_at(flash, place, end)?;
+    let behind = place + padded_size(flash.geometry().prog, HEADER_SIZE);
+    match read_name(flash, behind, head.header.key_size)? {
+        Some(key) => Ok(KeyedHeader {
+            header: head.header,
+            key,
+        }),
+        None => Err(broken_header(&head.bytes)),
+    }
+}
+
+/// The key of the record at `place` that ends at or before `end`, as `read_keyed_header_at` gives
+/// it.
 pub fn read_key_at<F: Flash>(flash: &mut F, place: u32, end: u32) -> Result<Key, KvError>
     requires valid { IsValid (F.state flash.old).geometry }
     requires header { place + 24 ≤ end }
@@ -118,10 +150,6 @@ pub fn read_key_at<F: Flash>(flash: &mut F, place: u32, end: u32) -> Result<Key,
     ensures counts { IsCounted (F.state flash.old) (F.state flash.new) (kv_ended result) }
     ensures answer { ReadsKey (F.state flash.old) (F.state flash.new) place (end - place) result }
 {
-    let head = read_head_at(flash, place, end)?;
-    let behind = place + padded_size(flash.geometry().prog, HEADER_SIZE);
-    match read_name(flash, behind, head.header.key_size)? {
-        Some(key) => Ok(key),
-        None => Err(broken_header(&head.bytes)),
-    }
+    let keyed = read_keyed_header_at(flash, place, end)?;
+    Ok(keyed.key)
 }

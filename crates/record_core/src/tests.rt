@@ -1,3 +1,5 @@
+ghost use Rattle.std.specs.Prelude.{◌≤◌};
+
 use super::*;
 use kv_model::Key;
 use std::test::Fail;
@@ -17,6 +19,35 @@ fn crc_is_the_complement_of_the_usual_one(rt: HostRuntime) {
     }
     let front = crc(CRC_START, b"12345".as_slice());
     assert_eq!(rt; crc(front, b"6789".as_slice()), 0x340b_c6d9);
+}
+
+// Slices of eight bytes and what is left of each length: the complements of what zlib gives for so
+// many bytes of the text.
+const TEXT: &[u8; 64] = b"The quick brown fox jumps over the lazy dog, and then it sleeps.";
+
+const CRCS: [u32; 65] = [
+    0xffffffff, 0x41fb859f, 0x23989c3a, 0xfbf7d4f9, 0xfff49da4, 0xf646d2c6, 0x529ea4e4, 0x935b6139,
+    0x8b2de38b, 0xa081cf9b, 0x5c13ebcb, 0xaf5608a7, 0xf6167053, 0x2f996af7, 0xed971a4a, 0x3cee73cb,
+    0x37e4d583, 0xd057f222, 0x08bd6adf, 0x48ba8b21, 0x774f8a1d, 0xce16ab15, 0x4d7c77f3, 0x17fac234,
+    0x71a67f4b, 0x28731ee1, 0xec4b8138, 0xf5e38fd6, 0xd6234067, 0xeed8426c, 0xfae1e521, 0x77fdd173,
+    0x9e136872, 0xfdfcea12, 0xce9c1875, 0x1bcf3963, 0x90a4d2a8, 0xe228dec6, 0xc235d779, 0x00c235d7,
+    0x23d9a58a, 0x479116da, 0xbb4cd615, 0xbeb05cc6, 0x4061bb3a, 0xfd2298c1, 0xd62b8170, 0xfad916e2,
+    0x0421ff03, 0xa263508d, 0xc4c329e8, 0xed7c4009, 0x44e95133, 0x159ec418, 0x2817265a, 0xbff87630,
+    0x710e7dff, 0x161dc138, 0xe11885d9, 0xbbea5f86, 0x39b8599d, 0xb35fc277, 0x9ed7ca61, 0xf327a682,
+    0xdf93c865,
+];
+
+fn crc_of_text(length: usize) -> u32
+    requires { length ≤ 64 }
+{
+    crc(CRC_START, &TEXT[..length])
+}
+
+#[test]
+fn crc_of_each_length(rt: HostRuntime) {
+    for (length, want) in CRCS.iter().enumerate() {
+        assert_eq!(rt; crc_of_text(length), *want);
+    }
 }
 
 // A key of 1 byte with a value of 2, and a master record, at each program unit.

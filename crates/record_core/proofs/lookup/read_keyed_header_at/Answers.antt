@@ -7,7 +7,7 @@ use Rattle.base_core.specs.Units.{up}
 use Rattle.base_core.proofs.UnitLemmas.{up-ge}
 use Rattle.record_core.specs.Lookup.{IsSeen}
 use Rattle.record_core.proofs.LookupLemmas.{IsSeen-since}
-use Rattle.record_core.proofs.lookup.read_key_at.Goals as goal
+use Rattle.record_core.proofs.lookup.read_keyed_header_at.Goals as goal
 
 pub read_name-requires-clause-inside : goal.read_name-requires-clause-inside
 read_name-requires-clause-inside g c =
