@@ -6,8 +6,14 @@ use Rattle.kv_model.specs.declared.error.KvError.{KvError}
 use Rattle.kv_model.specs.declared.error.KvError.TheVariants.{Corrupt, InvalidSize}
 use Rattle.kv_model.specs.declared.call.Got.{Got}
 use Rattle.record_core.specs.declared.header.Header.{Header}
-use Rattle.record_core.specs.Lookup.{IsSeen}
+use Rattle.kv_model.specs.Crc.{crc_of}
+use Rattle.record_core.specs.Header.{header_front}
+use Rattle.record_core.specs.Lookup.{IsCrcOf, IsSeen}
 use Rattle.area_log.specs.Reading.{filled, sum_of}
+
+-- the CRC of the header's front and of the key at this place
+abbrev pub IsBegun : FlashState → ℕ → Header → ℕ → Type 0
+IsBegun s place header = IsCrcOf s place header.key_size (crc_of (header_front header.flags header.key_size header.value_size))
 
 -- The CRC is not that of the payload that was read.
 pub record ChecksWrong (s : FlashState) (place : ℕ) (header : Header) (e : KvError) : Type 0 where

@@ -13,6 +13,7 @@ mod scan;
 
 pub use area::Area;
 pub use laws::{lists_are_one, lists_go_on, rest_of_a_value_is_given};
+pub use read::PlacedHeader;
 pub use scan::Visitor;
 
 #[cfg(test)]

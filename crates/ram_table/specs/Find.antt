@@ -34,6 +34,10 @@ pub record IsInside (entries : List Entry) (place : Place) : Type 0 where
   pub most : place.at ≤ length entries
   pub there : place.found ≡ true → place.at < length entries
 
+-- where the key is found, this holds of the offset of its entry
+abbrev pub WhereFound : List Entry → (ℕ → Type 0) → Place → Type 0
+WhereFound entries Holds place = place.found ≡ true → Holds (entry_at entries place.at).offset
+
 -- some entry's key is this key
 pub record HasKey (keys : KeyMap) (entries : List Entry) (key : List ℕ) : Type 0 where
   pub place : ℕ

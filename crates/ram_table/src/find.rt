@@ -4,7 +4,7 @@ ghost use Rattle.std.specs.Option.{ForSome};
 ghost use Rattle.kv_model.specs.Crc.{key_hash};
 ghost use Rattle.ram_table.specs.Reader.{HasRead};
 ghost use Rattle.ram_table.specs.Table.{entry_at};
-ghost use Rattle.ram_table.specs.Find.{AscendByHash, CanFind, IsFirstAbove, IsInside, IsPlaceOf, count_hash};
+ghost use Rattle.ram_table.specs.Find.{AscendByHash, CanFind, IsFirstAbove, IsInside, IsPlaceOf, WhereFound, count_hash};
 
 use crate::{KeyReader, Place, RamTable, Steps};
 use kv_model::{Key, KvError};
@@ -60,6 +60,8 @@ impl RamTable {
         ensures inside { IfOk result (IsInside self.now.entries) }
         ensures place { ForSome (R.state reader.old).keys (λ keys. IfOk result (λ place.
             IsPlaceOf (R.state reader.old).hash_bits keys self.now.entries key.now place)) }
+        ensures last { IfOk result (WhereFound self.now.entries
+            (λ offset. R.read_last reader.new offset key.now)) }
         ensures not_fewer { steps.old ≤ steps.new }
         ensures steps { steps.new ≤ steps.old + count_hash hash self.now.entries + 1 }
     {
@@ -83,8 +85,8 @@ impl RamTable {
     }
 
     /// Looks for a key, whose hash is the low bits of its CRC that the reader's keys have: gives
-    /// the key's place, and whether the key stands there. It refuses exactly where the reader
-    /// refused, with what that was.
+    /// the key's place, and whether the key stands there. A key that was found was read last. It
+    /// refuses exactly where the reader refused, with what that was.
     ///
     /// It looks at no more entries than the number of binary digits of the length and the number of
     /// entries with this hash, and one.
@@ -102,6 +104,8 @@ impl RamTable {
         ensures inside { IfOk result (IsInside self.now.entries) }
         ensures place { ForSome (R.state reader.old).keys (λ keys. IfOk result (λ place.
             IsPlaceOf (R.state reader.old).hash_bits keys self.now.entries key.now place)) }
+        ensures last { IfOk result (WhereFound self.now.entries
+            (λ offset. R.read_last reader.new offset key.now)) }
         ensures not_fewer { steps.old ≤ steps.new }
         ensures steps { (digits : ℕ) → length self.now.entries < 2 ^ digits
             → steps.new ≤ steps.old + digits + count_hash hash self.now.entries + 1 }

@@ -32,12 +32,14 @@ fn letter_key(letter: u32) -> Key
 }
 
 impl KeyReader for Letters {
-    ghost use Rattle.std.specs.Prelude.{◌≡◌, refl};
+    ghost use Rattle.std.specs.Prelude.{◌≡◌, [], ◌∷◌, refl};
     ghost use Rattle.std.proofs.Common.{◌∙◌};
 
     ghost state = { λ reader. letters_state reader.hash_bits };
 
     ghost may_follow = { λ a b. b ≡ a };
+
+    ghost read_last = { λ _ offset key. key ≡ offset ∷ [] };
 
     fn key_at(&mut self, offset: u32, out: &mut Key) -> Result<(), KvError> {
         *out = letter_key(offset);
@@ -201,6 +203,8 @@ impl KeyReader for Failing {
     ghost state = { λ reader. failing_state reader.faults };
 
     ghost may_follow = { λ a b. a.faults ≤ b.faults };
+
+    ghost read_last = { λ _ _ _. Unit {0} };
 
     fn key_at(&mut self, _offset: u32, _out: &mut Key) -> Result<(), KvError> {
         self.faults = self.faults.saturating_add(1);

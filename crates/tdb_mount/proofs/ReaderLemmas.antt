@@ -1,6 +1,6 @@
 -- A reader of keys over a device.
-use Rattle.std.proofs.Common.{◌≡◌, ◌⊎◌, ℕ, ◌+◌, ◌-◌, ◌^◌, true, IsTrue, List, inl, inr, refl, sym, ◌∙◌, ap, subst, arith}
-use Rattle.std.specs.Prelude.{Option, Some, None, is_some, Result, Ok, Err, IfErr}
+use Rattle.std.proofs.Common.{◌≡◌, ◌⊎◌, ℕ, ◌+◌, ◌-◌, ◌^◌, Bool, true, false, IsTrue, List, inl, inr, refl, sym, ◌∙◌, ap, subst, arith}
+use Rattle.std.specs.Prelude.{Option, Some, None, MatchOption, is_some, Result, Ok, Err, IfErr}
 use Rattle.std.specs.FinMap.{get}
 use Rattle.std.specs.Option.{option_map}
 use mathlib.Core.Bool.{false≢true}
@@ -8,16 +8,23 @@ use Rattle.base_core.specs.Counts.{counted}
 use Rattle.flash_core.specs.Calls.{CountsStand, OnlyReads}
 use Rattle.flash_core.specs.Runs.{IsCauseOfRead, IsCounted, ReadsBy}
 use Rattle.flash_core.specs.State.{FlashState}
+use Rattle.flash_core.specs.declared.geometry.Geometry.{Geometry}
 use Rattle.kv_model.specs.declared.error.KvError.{KvError}
 use Rattle.kv_model.specs.declared.error.KvError.TheVariants as error
 use Rattle.record_core.specs.Endings.{kv_ended, kv_ending}
 use Rattle.area_log.specs.declared.area.Area.{Area}
+use Rattle.area_log.specs.declared.read.PlacedHeader.{PlacedHeader}
 use Rattle.area_log.specs.Areas.{end_of}
+use Rattle.ram_table.specs.declared.table.Entry.{Entry}
+use Rattle.ram_table.specs.declared.table.Place.{Place}
+use Rattle.ram_table.specs.Find.{WhereFound}
+use Rattle.ram_table.specs.Table.{entry_at}
+use Rattle.tdb_mount.specs.declared.lookup.Seen.{Seen}
 use Rattle.record_core.specs.declared.header.Header.{Header}
 use Rattle.record_core.specs.Header.{header_bytes}
-use Rattle.record_core.specs.Lookup.{HeadBroken, HeadSeen, IsHead, IsReadFault, KeyBroken, KeySeen, broken_answer}
+use Rattle.record_core.specs.Lookup.{HeadBroken, HeadSeen, IsHead, IsReadFault, IsSeen, KeyBroken, KeyedSeen, broken_answer}
 use Rattle.ram_table.specs.Reader.{CanReadKey, HasRead as HasReadKey, IsRefusal, Keeps, KeyMap}
-use Rattle.tdb_mount.specs.Keys.{SpellsKey, key_spelled, keys_in, keys_of}
+use Rattle.tdb_mount.specs.Keys.{HasHead, IsHeadAt, IsLast, SpellsKey, key_spelled, keys_in, keys_of}
 use Rattle.kv_model.specs.Keys.{is_key}
 use Rattle.base_core.specs.Units.{up}
 use Rattle.flash_core.specs.Images.{part}
@@ -109,11 +116,11 @@ module _ (old new : FlashState) (area : Area) (hash_bits before now offset : ℕ
     (counts_of broken.head.bytes e broken.is counts).of_reads,
   )
 
-  pub key_read : (out : List ℕ) → KeySeen old offset (end_of area - offset) out → (keys : KeyMap) → option_map (keys_in old.geometry area) old.image ≡ Some keys → get keys offset ≡ Some out
-  key_read out seen keys told =
+  pub key_read : (header : Header) (out : List ℕ) → KeyedSeen old offset (end_of area - offset) header out → (keys : KeyMap) → option_map (keys_in old.geometry area) old.image ≡ Some keys → get keys offset ≡ Some out
+  key_read header out seen keys told =
       let image = mapped_from (keys_in old.geometry area) old.image keys told in
       let key = spelled image.0 image.1 in
-      let same : out ≡ key.0 = key_spelled_is image.0 image.1 key.0 out key.1 seen.header seen.head (seen.seen.told image.0 image.1) in
+      let same : out ≡ key.0 = key_spelled_is image.0 image.1 key.0 out key.1 header seen.head (seen.seen.told image.0 image.1) in
       subst (λ (k : KeyMap). get k offset ≡ Some out) image.2 (key.2 ∙ ap (λ (k : List ℕ). Some k) (sym same))
 
 -- a read that answered
@@ -160,3 +167,41 @@ module _ (old new : FlashState) (area later : Area) (bits bits_now before now : 
   pub search_cause : {T : Type 0} (result : Result T KvError) → IfErr result (IsRefusal (keys_of old area bits before) (keys_of new later bits_now now)) → IfErr result (IsRefusal (keys_of old area bits 0) (keys_of new area bits 0))
   search_cause (Ok x) cause = tt
   search_cause (Err e) cause = same_refusal e cause
+
+-- ---- the header of a key that was found
+
+head_if : (found : Bool) (last head : Option PlacedHeader) (P : PlacedHeader → Type 0) → (found ≡ true → head ≡ last) → (found ≡ false → head ≡ None) → (found ≡ true → MatchOption last ⊥ P)
+    → MatchOption head (found ≡ false) (λ h. (found ≡ true) × P h)
+head_if true None head P same absent is = absurd (is refl)
+head_if true (Some h) head P same absent is =
+    subst (λ (o : Option PlacedHeader). MatchOption o (true ≡ false) (λ x. (true ≡ true) × P x)) (sym (same refl)) (refl, is refl)
+head_if false last head P same absent is =
+    subst (λ (o : Option PlacedHeader). MatchOption o (false ≡ false) (λ x. (false ≡ true) × P x)) (sym (absent refl)) refl
+
+pub has_head : (s : FlashState) (area : Area) (entries : List Entry) (key : List ℕ) (place : Place) (last : Option PlacedHeader) (seen : Seen) → seen.place ≡ place
+    → (place.found ≡ true → seen.head ≡ last) → (place.found ≡ false → seen.head ≡ None)
+    → WhereFound entries (λ offset. IsLast s area last offset key) place → HasHead s area entries key seen
+has_head s area entries key place last seen same found absent is =
+    subst (λ (p : Place). MatchOption seen.head (p.found ≡ false) (λ head. (p.found ≡ true) × IsHeadAt s area (entry_at entries p.at).offset key head)) (sym same)
+    (head_if place.found last seen.head (IsHeadAt s area (entry_at entries place.at).offset key) found absent is)
+
+-- what was read is there behind reads
+seen_later : {old new : FlashState} {place n : ℕ} {bytes : List ℕ} → OnlyReads old new → IsSeen old place n bytes → IsSeen new place n bytes
+seen_later reads seen = record { long = seen.long; told = λ image told. seen.told image (sym reads.image ∙ told) }
+
+keyed_later : {old new : FlashState} → OnlyReads old new → (place room : ℕ) (header : Header) (key : List ℕ) → KeyedSeen old place room header key → KeyedSeen new place room header key
+keyed_later {old} {new} reads place room header key keyed = record {
+  head = record {
+    bytes = keyed.head.bytes;
+    seen = seen_later reads keyed.head.seen;
+    head = subst (λ (g : Geometry). IsHead g.prog room keyed.head.bytes header) (sym reads.geometry) keyed.head.head;
+  };
+  seen = subst (λ (g : Geometry). IsSeen new (place + up g.prog 24) header.key_size key) (sym reads.geometry) (seen_later reads keyed.seen);
+  valid = keyed.valid;
+}
+
+pub head_later : {old new : FlashState} (area : Area) (place : ℕ) (key : List ℕ) (head : PlacedHeader) → OnlyReads old new → head.at ≡ place → KeyedSeen old place (end_of area - place) head.header key → IsHeadAt new area place key head
+head_later {old} {new} area place key head reads at seen = record {
+  at = at;
+  seen = keyed_later reads place (end_of area - place) head.header key seen;
+}

@@ -1,5 +1,5 @@
 -- The keys of a device by the places of their records.
-use Rattle.std.specs.Prelude.{◌≡◌, ℕ, zero, suc, ◌+◌, ◌-◌, ◌≤◌, ◌==◌, ◌&&◌, ◌||◌, not, nat_le, if◌then◌else◌, Bool, IsTrue, List, slice_range, Option, Some, None}
+use Rattle.std.specs.Prelude.{◌≡◌, ℕ, zero, suc, ◌+◌, ◌-◌, ◌≤◌, ◌==◌, ◌&&◌, ◌||◌, not, nat_le, if◌then◌else◌, Bool, IsTrue, List, slice_range, Option, Some, None, true, false, MatchOption}
 use Rattle.std.specs.FinMap.{empty, insert}
 use Rattle.std.specs.Int.{w16, w32, from_le_bytes}
 use Rattle.std.specs.Option.{option_map}
@@ -14,9 +14,14 @@ use Rattle.base_core.specs.Units.{up}
 use Rattle.base_core.specs.Sizes.{record_size}
 use Rattle.record_core.specs.declared.header.Header.{Header}
 use Rattle.record_core.specs.Header.{IsValid, header_bytes}
+use Rattle.record_core.specs.Lookup.{KeyedSeen}
 use Rattle.area_log.specs.declared.area.Area.{Area}
+use Rattle.area_log.specs.declared.read.PlacedHeader.{PlacedHeader}
 use Rattle.area_log.specs.Areas.{end_of}
+use Rattle.ram_table.specs.declared.table.Entry.{Entry}
 use Rattle.ram_table.specs.Reader.{KeyMap, ReaderState}
+use Rattle.ram_table.specs.Table.{entry_at}
+use Rattle.tdb_mount.specs.declared.lookup.Seen.{Seen}
 
 -- A header stands at this place whose record would end at or before this end, and behind it this key.
 pub record SpellsKey (prog : ℕ) (image : List ℕ) (end place : ℕ) (key : List ℕ) : Type 0 where
@@ -78,3 +83,17 @@ keys_of s area hash_bits refusals = record {
   sound = s.sound;
   keys = option_map (keys_in s.geometry area) s.image;
 }
+
+-- This header was read at this place of an area, and behind it this key.
+pub record IsHeadAt (s : FlashState) (area : Area) (place : ℕ) (key : List ℕ) (head : PlacedHeader) : Type 0 where
+  pub at : head.at ≡ place
+  pub seen : KeyedSeen s place (end_of area - place) head.header key
+
+-- the header that was read last is that of the record at this place, whose key is this
+abbrev pub IsLast : FlashState → Area → Option PlacedHeader → ℕ → List ℕ → Type 0
+IsLast s area last place key = MatchOption last ⊥ (IsHeadAt s area place key)
+
+-- a header is there exactly where the key was found, and is that of the key's entry
+abbrev pub HasHead : FlashState → Area → List Entry → List ℕ → Seen → Type 0
+HasHead s area entries key seen = MatchOption seen.head (seen.place.found ≡ false)
+    (λ head. (seen.place.found ≡ true) × IsHeadAt s area (entry_at entries seen.place.at).offset key head)

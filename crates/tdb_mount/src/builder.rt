@@ -1,87 +1,21 @@
 //! The table of an area's records, built as a walk shows them.
-ghost use Rattle.std.specs.Prelude.{◌≡◌, ◌+◌, ◌<◌, ◌≤◌, ℕ, [], length, IfOk, IfErr, OnOk};
-ghost use Rattle.std.specs.Option.{ForSome};
+ghost use Rattle.std.specs.Prelude.{◌≡◌, ◌+◌, ◌≤◌, ℕ, [], length, IfErr, OnOk};
 ghost use Rattle.base_core.specs.Counts.{counted};
-ghost use Rattle.flash_core.specs.Runs.{ReadsBy};
-ghost use Rattle.flash_core.specs.Sizes.{IsValid};
 ghost use Rattle.kv_model.specs.declared.error.KvError.TheVariants.{Memory};
-ghost use Rattle.record_core.specs.Endings.{kv_ended};
-ghost use Rattle.area_log.specs.Areas.{end_of, IsAreaOf};
+ghost use Rattle.area_log.specs.Areas.{end_of};
 ghost use Rattle.area_log.specs.Listing.{CountsRefusals};
-ghost use Rattle.ram_table.specs.Find.{CanFind, IsInside, IsPlaceOf};
-ghost use Rattle.ram_table.specs.Reader.{IsRefusal};
+ghost use Rattle.ram_table.specs.Find.{IsInside};
 ghost use Rattle.ram_table.specs.Table.{changed};
-ghost use Rattle.tdb_mount.specs.Keys.{keys_in, keys_of};
 ghost use Rattle.tdb_mount.specs.Room.{AreIn, HasRoomFor};
 
-use crate::DeviceKeys;
+use crate::place_of;
 use area_log::{Area, Visitor};
 use flash_core::Flash;
 use kv_model::{Key, KvError};
-use ram_table::{Place, RamTable, Steps};
+use ram_table::{Place, RamTable};
 use record_core::{Header, REMOVE, hash_of};
 use std::alloc::Global;
 use std::marker::{Brand, PhantomData};
-use std::sync::ledger::{Blank, Ledger};
-
-// As `place_of`, with a ledger for the counter that `find` is handed.
-fn place_by<L: Ledger, F: Flash>(
-    blank: Blank,
-    table: &RamTable,
-    flash: &mut F,
-    area: Area,
-    hash_bits: u8,
-    key: &Key,
-) -> Result<Place, KvError>
-    requires name { blank.name ≡ L.name }
-    requires parts { blank.parts ≡ L.parts }
-    requires some { 0 < blank.parts }
-    requires valid { IsValid (F.state flash.old).geometry }
-    requires area { IsAreaOf (F.state flash.old).geometry area }
-    requires bits { hash_bits ≤ 32 }
-    requires can { CanFind (keys_of (F.state flash.old) area hash_bits 0) table.now.entries }
-    ensures reads { ReadsBy (F.state flash.old) (F.state flash.new) (kv_ended result) }
-    ensures inside { IfOk result (IsInside table.now.entries) }
-    ensures place { ForSome (F.state flash.old).image (λ image. IfOk result (λ place.
-        IsPlaceOf hash_bits (keys_in (F.state flash.old).geometry area image) table.now.entries
-        key.now place)) }
-    ensures cause { IfErr result (IsRefusal (keys_of (F.state flash.old) area hash_bits 0)
-        (keys_of (F.state flash.new) area hash_bits 0)) }
-{
-    let mut reader = DeviceKeys {
-        flash,
-        area,
-        hash_bits,
-        refusals: 0,
-    };
-    let mut steps = Steps::<L>::new(blank);
-    table.find(&mut reader, hash_of(key, hash_bits), key, &mut steps)
-}
-
-/// Where the key stands in the table, whose entries are of this area, or would stand. It refuses as
-/// `RamTable::find` does over the keys of the area: `ReadFault` comes exactly where the count of
-/// read faults rose, and `Corrupt` only from a device that doesn't tell its bytes.
-pub fn place_of<F: Flash>(
-    table: &RamTable,
-    flash: &mut F,
-    area: Area,
-    hash_bits: u8,
-    key: &Key,
-) -> Result<Place, KvError>
-    requires valid { IsValid (F.state flash.old).geometry }
-    requires area { IsAreaOf (F.state flash.old).geometry area }
-    requires bits { hash_bits ≤ 32 }
-    requires can { CanFind (keys_of (F.state flash.old) area hash_bits 0) table.now.entries }
-    ensures reads { ReadsBy (F.state flash.old) (F.state flash.new) (kv_ended result) }
-    ensures inside { IfOk result (IsInside table.now.entries) }
-    ensures place { ForSome (F.state flash.old).image (λ image. IfOk result (λ place.
-        IsPlaceOf hash_bits (keys_in (F.state flash.old).geometry area image) table.now.entries
-        key.now place)) }
-    ensures cause { IfErr result (IsRefusal (keys_of (F.state flash.old) area hash_bits 0)
-        (keys_of (F.state flash.new) area hash_bits 0)) }
-{
-    place_by::<Brand, F>(Blank::new(1), table, flash, area, hash_bits, key)
-}
 
 /// A number of hash bits that stays the same over a walk.
 pub trait HashBits {

@@ -10,14 +10,15 @@ mod builder;
 mod format;
 mod keys;
 mod laws;
+mod lookup;
 mod mount;
 
-pub use builder::place_of;
 pub use keys::DeviceKeys;
 pub use laws::{
     keys_are_told_as_spelled, last_record_has_the_place, mounting_keeps_the_map,
     versions_count_in_a_circle,
 };
+pub use lookup::{Seen, look_up, place_of};
 pub use mount::{MountError, Parts, area_at, mount_parts};
 
 #[cfg(test)]

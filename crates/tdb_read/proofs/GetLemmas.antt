@@ -1,8 +1,7 @@
 -- A get and an info of a key that was looked up are calls of a plain store.
-use Rattle.std.proofs.Common.{◌≡◌, ℕ, ◌+◌, ◌-◌, ◌≤◌, ◌<◌, Bool, true, false, List, length, take, inl, inr, refl, sym, ◌∙◌, ap, subst, arith}
-use Rattle.std.specs.Prelude.{not, nat_lt, Option, Some, MatchBool, Result, Ok, Err, IfOk}
+use Rattle.std.proofs.Common.{◌≡◌, ℕ, ◌+◌, ◌-◌, ◌≤◌, ◌<◌, true, false, List, length, take, inl, inr, refl, sym, ◌∙◌, ap, subst, arith}
+use Rattle.std.specs.Prelude.{nat_lt, Option, Some, Result, Ok, Err, IfOk}
 use Rattle.std.proofs.lemmas.Bool.Decides.{nat_tests}
-use mathlib.Core.Bool.{false≢true}
 use Rattle.base_core.proofs.CountLemmas.{Rose-since}
 use Rattle.flash_core.specs.declared.geometry.Geometry.{Geometry}
 use Rattle.flash_core.specs.Calls.{OnlyReads}
@@ -28,15 +27,16 @@ use Rattle.area_log.specs.Reading.{Gives, GivesRead, IsWithin}
 use Rattle.base_core.specs.Units.{up}
 use Rattle.record_core.specs.Lookup.{IsHead, IsSeen}
 use Rattle.record_core.proofs.LookupLemmas.{IsSeen-since}
-use Rattle.ram_table.specs.declared.table.Place.{Place}
+use Rattle.area_log.specs.declared.read.PlacedHeader.{PlacedHeader}
+use Rattle.std.specs.Option.{ForSome}
 use Rattle.tdb_mount.specs.Index.{record_of}
 use Rattle.tdb_mount.proofs.ReaderLemmas.{mapped_from}
-use Rattle.tdb_read.specs.Reads.{GivesHeader, GivesValue, HasAt, IsChecked, IsFound, IsReadRefusal, OfRecord, SaysOf, offset_in}
+use Rattle.tdb_read.specs.Reads.{GivesValue, HasAt, IsChecked, IsHeadOf, IsReadRefusal, OfRecord, SaysOf}
 use Rattle.tdb_read.specs.States.{constants_of, kv_state, state_in}
 use Rattle.tdb_read.specs.Views.{HasOnlyRead, HasRead, LogPart, LogView, area_in}
 use Rattle.tdb_read.proofs.AnswerLemmas.{refused, ruled}
 use Rattle.tdb_read.proofs.ReadLemmas.{value_read}
-use Rattle.tdb_read.proofs.StepLemmas.{info_present, info_reads, part_large, part_present, part_reads}
+use Rattle.tdb_read.proofs.StepLemmas.{info_present, part_large, part_present, part_reads}
 
 pub refusal_since : {old mid : FlashState} (new : FlashState) (e : KvError) → OnlyReads old mid → IsReadRefusal mid new e → IsReadRefusal old new e
 refusal_since new ReadFault read is = (Rose-since read.read_faults is.0, λ steady. is.1 (read.steady steady))
@@ -46,10 +46,6 @@ refusal_since new e read is = absurd is
 of_record_since : {old mid : FlashState} (place : ℕ) (P : Write → Type 0) → OnlyReads old mid → OfRecord mid place P → OfRecord old place P
 of_record_since {old} {mid} place P read holds = λ image told r stands.
     holds image (read.image ∙ told) r (subst (λ (g : Geometry). IsRecordAt g.prog image place r) (sym read.geometry) stands)
-
-is_found : (found : Bool) (P Q : Type 0) → not found ≡ false → MatchBool found P Q → P
-is_found true P Q there is = is
-is_found false P Q there is = absurd (false≢true (sym there))
 
 not_below : (m n : ℕ) → n ≤ m → nat_lt m n ≡ false
 not_below m n le = grind (arith, nat_tests)
@@ -98,22 +94,28 @@ only_read {old} read = record { device = read.device; log = read.log ∙ λ i. r
 pub read_then : {old mid new : LogView} → HasOnlyRead old mid → HasOnlyRead mid new → HasOnlyRead old new
 read_then first second = record { device = OnlyReads-trans first.device second.device; log = second.log ∙ first.log }
 
-module _ (old mid new : LogView) (first : HasOnlyRead old mid) (second : HasOnlyRead mid new) (set : Option OpenSet) (who : ℕ)
-    (bytes key : List ℕ) (key_is : key ≡ bytes) (valid : is_key bytes ≡ true) (place : Place) (found : IsFound old key place) (there : not place.found ≡ false) where
+-- a header that was looked up belongs to a key that the map had before
+pub head_since : {old mid : LogView} (key : List ℕ) (head : PlacedHeader) → HasOnlyRead old mid → IsHeadOf mid key head → ForSome old.device.image (λ image. HasAt old.device.geometry image old.log key head.at)
+head_since {old} {mid} key head only is = λ image told.
+    subst (λ (g : Geometry). HasAt g image old.log key head.at) only.device.geometry
+    (subst (λ (l : LogPart). HasAt mid.device.geometry image l key head.at) only.log (is.has image (only.device.image ∙ told)))
+
+-- a value that was read behind other reads
+pub value_since : {old mid : LogView} (new : LogView) (at offset : ℕ) (buf : List ℕ) (result : Result Got KvError) → HasOnlyRead old mid → GivesValue mid new at offset buf result → GivesValue old new at offset buf result
+value_since new at offset buf (Ok got) first gives = of_record_since at (λ r. Gives r offset buf got) first.device gives
+value_since new at offset buf (Err e) first (inl refusal) = inl (refusal_since new.device e first.device refusal)
+value_since new at offset buf (Err e) first (inr beyond) = inr (beyond.0, of_record_since at (λ r. length r.value < offset) first.device beyond.1)
+
+pub says_since : {old mid : LogView} (head : PlacedHeader) → HasOnlyRead old mid → OfRecord mid.device head.at (SaysOf head.header) → OfRecord old.device head.at (SaysOf head.header)
+says_since head first says = of_record_since head.at (SaysOf head.header) first.device says
+
+module _ (old new : LogView) (whole : HasOnlyRead old new) (set : Option OpenSet) (who : ℕ) (bytes key : List ℕ) (key_is : key ≡ bytes) (valid : is_key bytes ≡ true) (at : ℕ)
+    (located : ForSome old.device.image (λ image. HasAt old.device.geometry image old.log key at)) where
   abbrev g : Geometry
   g = old.device.geometry
 
-  whole : HasOnlyRead old new
-  whole = read_then first second
-
   same : new.log.iterators ≡ old.log.iterators
   same = ap (λ (l : LogPart). l.iterators) whole.log
-
-  abbrev at : ℕ
-  at = offset_in old.log place.at
-
-  place_same : offset_in mid.log place.at ≡ at
-  place_same = ap (λ (l : LogPart). offset_in l place.at) first.log
 
   abbrev state : List ℕ → StoreState
   state image = state_in g old.log set image
@@ -125,22 +127,17 @@ module _ (old mid new : LogView) (first : HasOnlyRead old mid) (second : HasOnly
   stays image = λ i. state_in g (record old.log { iterators = sym same i }) set image
 
   has : (image : List ℕ) → old.device.image ≡ Some image → HasAt g image old.log bytes at
-  has image told = subst (λ (k : List ℕ). HasAt g image old.log k at) key_is (is_found place.found (HasAt g image old.log key at) _ there (found.located image told).map_is)
+  has image told = subst (λ (k : List ℕ). HasAt g image old.log k at) key_is (located image told)
 
   -- ---- get
 
   module _ (offset room : ℕ) (buf : List ℕ) (long : length buf ≡ room) where
-    since : (result : Result Got KvError) → GivesValue mid new (offset_in mid.log place.at) offset buf result → GivesValue old new at offset buf result
-    since (Ok got) gives = of_record_since at (λ r. Gives r offset buf got) first.device (subst (λ (p : ℕ). OfRecord mid.device p (λ r. Gives r offset buf got)) place_same gives)
-    since (Err e) (inl refusal) = inl (refusal_since new.device e first.device refusal)
-    since (Err e) (inr beyond) = inr (beyond.0, of_record_since at (λ r. length r.value < offset) first.device (subst (λ (p : ℕ). OfRecord mid.device p (λ r. length r.value < offset)) place_same beyond.1))
-
     gives_at : (got : Got) → GivesValue old new at offset buf (Ok got) → (image : List ℕ) (told : old.device.image ≡ Some image) → Gives (record_of bytes (has image told).stored) offset buf got
     gives_at got gives image told = gives image told (record_of bytes (has image told).stored) (has image told).kept.stands
 
-    answer : (result : Result Got KvError) → GivesValue old new at offset buf result → IfOk result (IsWithin offset room)
+    pub get_answer : (result : Result Got KvError) → GivesValue old new at offset buf result → IfOk result (IsWithin offset room)
         → Answers plain_rules (kv_state old set) (kv_state new set) (answered who (Part bytes offset room) (got_or result buf))
-    answer (Ok got) gives within =
+    get_answer (Ok got) gives within =
         ruled old new (only_read whole) set (answered who (Part bytes offset room) (Value (take got.read buf))) refl
         (λ image told.
         let is = gives_at got gives image told in
@@ -149,10 +146,10 @@ module _ (old mid new : LogView) (first : HasOnlyRead old mid) (second : HasOnly
         (not_below (length stored.bytes) offset (omega (arith, is.size, within.in_value)))
         ∙ λ i. record { state = stays image i; reply = Value (sym (value_read (record_of bytes stored) offset room buf got long within is) i) })
         (λ s l. refl)
-    answer (Err e) (inl refusal) within =
+    get_answer (Err e) (inl refusal) within =
         refused old new (only_read whole) set who (Part bytes offset room) e same refl refusal
         (λ image told. part_reads (constants_of g old.log) (state image) who refl bytes offset room valid)
-    answer (Err e) (inr beyond) within =
+    get_answer (Err e) (inr beyond) within =
         subst (λ (x : KvError). Answers plain_rules (kv_state old set) (kv_state new set) (answered who (Part bytes offset room) (Refused x))) (sym beyond.0)
         (ruled old new (only_read whole) set (answered who (Part bytes offset room) (Refused InvalidSize)) refl
         (λ image told.
@@ -162,10 +159,6 @@ module _ (old mid new : LogView) (first : HasOnlyRead old mid) (second : HasOnly
         ∙ λ i. record { state = stays image i; reply = Refused InvalidSize })
         (λ s l. refl))
 
-    pub get_answer : (result : Result Got KvError) → GivesValue mid new (offset_in mid.log place.at) offset buf result → IfOk result (IsWithin offset room)
-        → Answers plain_rules (kv_state old set) (kv_state new set) (answered who (Part bytes offset room) (got_or result buf))
-    get_answer result gives within = answer result (since result gives) within
-
     facts : (got : Got) → GivesValue old new at offset buf (Ok got) → (image : List ℕ) → old.device.image ≡ Some image
         → (plain_step (constants_of g old.log) (state image) 0 (Info bytes)).reply ≡ Facts got.size got.flags
     facts got gives image told =
@@ -174,34 +167,25 @@ module _ (old mid new : LogView) (first : HasOnlyRead old mid) (second : HasOnly
         ap (λ (o : Outcome). o.reply) (info_present (constants_of g old.log) (state image) 0 refl bytes valid stored (has image told).present)
         ∙ λ i. Facts (sym is.size i) (record { bits = sym is.flags i })
 
-    pub get_got : (result : Result Got KvError) → GivesValue mid new (offset_in mid.log place.at) offset buf result → IfOk result (IsWithin offset room)
+    pub get_got : (result : Result Got KvError) → GivesValue old new at offset buf result → IfOk result (IsWithin offset room)
         → IfOk result (IsGot plain_rules (kv_state old set) bytes room)
     get_got (Ok got) gives within = record {
       fits = omega (arith, within.read);
       facts = λ before is. let from = mapped_from (state_in g old.log set) old.device.image before is in
           subst (λ (b : StoreState). (plain_step (constants_of g old.log) b 0 (Info bytes)).reply ≡ Facts got.size got.flags) from.2
-          (facts got (since (Ok got) gives) from.0 from.1);
+          (facts got gives from.0 from.1);
     }
     get_got (Err e) gives within = tt
 
   -- ---- info
 
-  header_since : (header : Header) → GivesHeader mid new (offset_in mid.log place.at) (Ok header) → OfRecord old.device at (SaysOf header)
-  header_since header says = of_record_since at (SaysOf header) first.device (subst (λ (p : ℕ). OfRecord mid.device p (SaysOf header)) place_same says)
-
-  pub info_answer : (header : Header) → GivesHeader mid new (offset_in mid.log place.at) (Ok header)
+  pub info_answer : (header : Header) → OfRecord old.device at (SaysOf header)
       → Answers plain_rules (kv_state old set) (kv_state new set) (answered who (Info bytes) (Facts header.value_size (record { bits = header.flags })))
   info_answer header says =
       ruled old new (only_read whole) set (answered who (Info bytes) (Facts header.value_size (record { bits = header.flags }))) refl
       (λ image told.
       let stored = (has image told).stored in
-      let is = header_since header says image told (record_of bytes stored) (has image told).kept.stands in
+      let is = says image told (record_of bytes stored) (has image told).kept.stands in
       info_present (constants_of g old.log) (state image) who refl bytes valid stored (has image told).present
       ∙ λ i. record { state = stays image i; reply = Facts (sym is.size i) (record { bits = sym is.flags i }) })
       (λ s l. refl)
-
-  pub info_refused : (e : KvError) → IsReadRefusal mid.device new.device e
-      → Answers plain_rules (kv_state old set) (kv_state new set) (answered who (Info bytes) (Refused e))
-  info_refused e refusal =
-      refused old new (only_read whole) set who (Info bytes) e same refl (refusal_since new.device e first.device refusal)
-      (λ image told. info_reads (constants_of g old.log) (state image) who refl bytes valid)

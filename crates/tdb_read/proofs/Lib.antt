@@ -1,6 +1,7 @@
 pub mod RecordLemmas
 pub mod TableLemmas
 pub mod ReadLemmas
+pub mod LookupLemmas
 pub mod AnswerLemmas
 pub mod StepLemmas
 pub mod GetLemmas

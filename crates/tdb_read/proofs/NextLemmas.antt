@@ -42,8 +42,8 @@ module _ (old new : FlashState) (area : Area) (offset : ℕ) (inside : offset + 
 
   pub key_is_read : (key : List ℕ) → KeySeen old offset (end_of area - offset) key → (image : List ℕ) → old.image ≡ Some image
       → unwrap_or (map.get (keys_in old.geometry area image) offset) [] ≡ key
-  key_is_read key seen image told = ap (λ (o : Option (List ℕ)). unwrap_or o [])
-      (key_read old new area 0 0 0 offset can key seen (keys_in old.geometry area image) (ap (option_map (keys_in old.geometry area)) told))
+  key_is_read key is image told = ap (λ (o : Option (List ℕ)). unwrap_or o [])
+      (key_read old new area 0 0 0 offset can is.header key (record { head = is.head; seen = is.seen; valid = is.valid }) (keys_in old.geometry area image) (ap (option_map (keys_in old.geometry area)) told))
 
   pub key_refused : (e : KvError) → IsCounted old new (kv_ending e) → IsReadFault old new e ⊎ (HeadBroken old offset (end_of area - offset) e ⊎ KeyBroken old offset (end_of area - offset) e) → IsReadRefusal old new e
   key_refused e counts cause = from_reader old new area 0 0 0 e (refusal_of_read old new area 0 0 0 offset can e counts cause)

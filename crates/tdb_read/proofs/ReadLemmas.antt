@@ -17,17 +17,18 @@ use Rattle.kv_model.specs.StoreState.{Iterators}
 use Rattle.kv_model.specs.Write.{Write}
 use Rattle.record_core.specs.declared.header.Header.{Header}
 use Rattle.record_core.specs.Log.{IsRecordAt, extent}
-use Rattle.record_core.specs.Lookup.{IsHead, IsReadFault, ReadsHeader}
+use Rattle.record_core.specs.Lookup.{HeadSeen, IsHead, IsReadFault, ReadsHeader}
 use Rattle.record_core.proofs.LogLemmas.{one_record}
 use Rattle.record_core.proofs.LookupLemmas.{one_head}
-use Rattle.area_log.specs.Areas.{end_of}
+use Rattle.area_log.specs.Areas.{IsRange, end_of}
 use Rattle.area_log.specs.Reading.{Gives, IsWithin, ReadsValue, filled}
 use Rattle.area_log.proofs.ReadLemmas.{head_is, head_of, value_of_record}
 use Rattle.ram_table.specs.Reader.{IsRefusal}
 use Rattle.tdb_mount.specs.Keys.{keys_in, keys_of}
 use Rattle.area_log.specs.declared.area.Area.{Area}
+use Rattle.area_log.specs.declared.read.PlacedHeader.{PlacedHeader}
 use Rattle.tdb_read.proofs.TableLemmas.{holds_at}
-use Rattle.tdb_read.specs.Reads.{GivesHeader, GivesValue, IsReadRefusal, offset_in}
+use Rattle.tdb_read.specs.Reads.{GivesHeader, GivesValue, IsHeadOf, IsReadRefusal, OfRecord, SaysOf, offset_in}
 use Rattle.tdb_read.specs.Views.{HasOnlyRead, HasRead, IsLogOf, IsReady, IsSafe, LogPart, LogView, area_in}
 
 -- ---- what is kept
@@ -164,6 +165,27 @@ module _ (old new : LogView) (ready : IsReady old) (at : ℕ) (inside : at < len
   header_given (Err e) (inr broken) = corrupt_is s new.device e _ _ broken.is (λ same. omega (arith, same))
       (none_if s.image (λ image told. let r = some_record image told in
       broken.none (head_of r.0) (head_here image told r.0 r.1 broken.bytes (broken.seen.told image told))))
+
+-- ---- a header that was looked up
+
+pub head_inside : (v : LogView) → IsReady v → (key : List ℕ) (head : PlacedHeader) → IsHeadOf v key head → IsRange (area_in v.device.geometry v.log) head.at 24
+head_inside v ready key head is =
+    let within = ready.safe.within is.entry is.inside in
+    record { from = omega (arith, within.0, is.at); to = omega (arith, within.1, is.at) }
+
+module _ (old new : LogView) (ready : IsReady old) (key : List ℕ) (head : PlacedHeader) (is : IsHeadOf old key head) where
+  pub value_behind : (offset : ℕ) (buf : List ℕ) (result : Result Got KvError) → ReadsValue old.device new.device head.at (end_of (area_in old.device.geometry old.log) - head.at) offset buf result
+      → GivesValue old new head.at offset buf result
+  value_behind offset buf result reads =
+      subst (λ (p : ℕ). GivesValue old new p offset buf result) (sym is.at)
+      (value_given old new ready is.entry is.inside offset buf result
+      (subst (λ (p : ℕ). ReadsValue old.device new.device p (end_of (area_in old.device.geometry old.log) - p) offset buf result) is.at reads))
+
+  pub head_says : OfRecord old.device head.at (SaysOf head.header)
+  head_says =
+      subst (λ (p : ℕ). OfRecord old.device p (SaysOf head.header)) (sym is.at)
+      (header_given old new ready is.entry is.inside (Ok head.header)
+      (subst (λ (p : ℕ). HeadSeen old.device p (end_of (area_in old.device.geometry old.log) - p) head.header) is.at is.seen.head))
 
 -- ---- buffers
 

@@ -1,5 +1,5 @@
 -- What the parts of a reading call answer.
-use Rattle.std.specs.Prelude.{◌≡◌, ◌≢◌, ◌⊎◌, ℕ, ◌-◌, ◌<◌, ◌≤◌, IsTrue, List, length, true, false, MatchBool, Option, Some, None, MatchResult, Result, nat_eq}
+use Rattle.std.specs.Prelude.{◌≡◌, ◌≢◌, ◌⊎◌, ℕ, ◌-◌, ◌<◌, ◌≤◌, IsTrue, List, length, true, false, MatchBool, Option, Some, None, MatchOption, MatchResult, Result, nat_eq}
 use Rattle.std.specs.FinMap.{get}
 use Rattle.std.specs.List.{starts_with}
 use Rattle.std.specs.Option.{ForSome}
@@ -15,6 +15,8 @@ use Rattle.kv_model.specs.NextKey.{IsNext}
 use Rattle.kv_model.specs.Write.{Write, map_of}
 use Rattle.record_core.specs.declared.header.Header.{Header}
 use Rattle.record_core.specs.Log.{IsRecordAt}
+use Rattle.record_core.specs.Lookup.{KeyedSeen}
+use Rattle.area_log.specs.declared.read.PlacedHeader.{PlacedHeader}
 use Rattle.area_log.specs.Areas.{IsRange, end_of}
 use Rattle.area_log.specs.Reading.{Gives, GivesRead}
 use Rattle.kv_iters.specs.Calls.{position_of, use_refusal}
@@ -59,9 +61,25 @@ pub record IsFound (v : LogView) (key : List ℕ) (place : Place) : Type 0 where
   pub there : place.found ≡ true → place.at < length v.log.table.entries
   pub located : ForSome v.device.image (λ image. IsLocated v.device.geometry image v.log key place)
 
--- what a look-up of a key answers
+-- what a look-up of a key's place answers
 abbrev pub Finds : LogView → LogView → List ℕ → Result Place KvError → Type 0
 Finds old new key result = MatchResult result (IsFound old key) (IsReadRefusal old.device new.device)
+
+-- no record of the log gives the key a value
+abbrev pub Lacks : LogView → List ℕ → Type 0
+Lacks v key = ForSome v.device.image (λ image. get (map_in v.device.geometry v.log image) key ≡ None)
+
+-- This header, and the key behind it, were read at the place of an entry of the table, by whose record the map has the key.
+pub record IsHeadOf (v : LogView) (key : List ℕ) (head : PlacedHeader) : Type 0 where
+  pub entry : ℕ
+  pub inside : entry < length v.log.table.entries
+  pub at : head.at ≡ offset_in v.log entry
+  pub seen : KeyedSeen v.device head.at (end_of (area_in v.device.geometry v.log) - head.at) head.header key
+  pub has : ForSome v.device.image (λ image. HasAt v.device.geometry image v.log key head.at)
+
+-- what a look-up of a key's header answers
+abbrev pub LooksUp : LogView → LogView → List ℕ → Result (Option PlacedHeader) KvError → Type 0
+LooksUp old new key result = MatchResult result (λ found. MatchOption found (Lacks old key) (IsHeadOf new key)) (IsReadRefusal old.device new.device)
 
 -- P of the record that stands at this place, where the device tells its image
 abbrev pub OfRecord : FlashState → ℕ → (Write → Type 0) → Type 0

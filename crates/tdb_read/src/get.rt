@@ -14,9 +14,10 @@ use flash_core::Flash;
 use kv_model::{Flags, Got, Info, Key, KvError};
 
 impl<F: Flash> MountedLog<F> {
-    /// Reads a value from `offset` on into `buf`, as `Kv::get` of a plain store. The keys of equal
-    /// hashes are read, and then the record once. What is given of any device, also of one that
-    /// tells nothing, are bytes of a value whose CRC was found right.
+    /// Reads a value from `offset` on into `buf`, as `Kv::get` of a plain store. The header and the
+    /// key of each record with an equal hash are read once, up to the key's own, and then its value
+    /// once. What is given of any device, also of one that tells nothing, are bytes of a value whose
+    /// CRC was found right.
     pub fn get(&mut self, key: &[u8], offset: u32, buf: &mut [u8]) -> Result<Got, KvError>
         requires ready { Ready F.state self.old }
         ensures ready { Ready F.state self.new }
@@ -32,14 +33,14 @@ impl<F: Flash> MountedLog<F> {
         let Ok(key) = Key::new(key) else {
             return Err(KvError::InvalidKey);
         };
-        let place = self.find(&key)?;
-        if !place.found {
+        let Some(head) = self.look_up(&key)? else {
             return Err(KvError::NotFound);
-        }
-        self.read_value(place.at, offset, buf)
+        };
+        self.read_value(&head, &key, offset, buf)
     }
 
-    /// The size and the flags of a value, as `Kv::info` of a plain store. The value is not read.
+    /// The size and the flags of a value, as `Kv::info` of a plain store, off the header that the
+    /// look-up read. The value is not read.
     pub fn info(&mut self, key: &[u8]) -> Result<Info, KvError>
         requires ready { Ready F.state self.old }
         ensures ready { Ready F.state self.new }
@@ -50,14 +51,14 @@ impl<F: Flash> MountedLog<F> {
         let Ok(key) = Key::new(key) else {
             return Err(KvError::InvalidKey);
         };
-        let place = self.find(&key)?;
-        if !place.found {
+        let Some(head) = self.look_up(&key)? else {
             return Err(KvError::NotFound);
-        }
-        let header = self.read_header(place.at)?;
+        };
         Ok(Info {
-            flags: Flags { bits: header.flags },
-            size: header.value_size,
+            flags: Flags {
+                bits: head.header.flags,
+            },
+            size: head.header.value_size,
         })
     }
 }

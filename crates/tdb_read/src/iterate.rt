@@ -54,6 +54,7 @@ fn place_behind<F: Flash>(
         area,
         hash_bits,
         refusals: 0,
+        last: None,
     };
     Ok(table.place_after(&mut reader, hash_of(last, hash_bits), last)?)
 }

@@ -15,4 +15,6 @@ pub use laws::a_log_stands_for_what_its_image_mounts_to;
 pub use log::MountedLog;
 
 #[cfg(test)]
+mod count_tests;
+#[cfg(test)]
 mod tests;

@@ -9,18 +9,18 @@ ghost use Rattle.area_log.specs.Areas.{IsAreaOf};
 ghost use Rattle.area_log.specs.Reading.{IsWithin};
 ghost use Rattle.tdb_mount.specs.declared.mount.MountError.TheVariants.{BadGeometry};
 ghost use Rattle.tdb_read.specs.Mounting.{IsMounted, IsUnmounted};
-ghost use Rattle.tdb_read.specs.Reads.{Finds, GivesHeader, GivesValue, IsChecked, offset_in};
+ghost use Rattle.tdb_read.specs.Reads.{Finds, GivesHeader, GivesValue, IsChecked, IsHeadOf, LooksUp, offset_in};
 ghost use Rattle.tdb_read.specs.States.{kv_state};
 ghost use Rattle.tdb_read.specs.Views.{OnlyRead, Ready, area_in, view_of};
 
-use area_log::Area;
+use area_log::{Area, PlacedHeader};
 use flash_core::Flash;
 use kv_iters::Iters;
 use kv_model::{Got, Key, KvError};
 use ram_table::{Place, RamTable};
 use record_core::{Header, read_header_at};
 use std::alloc::Global;
-use tdb_mount::{MountError, area_at, mount_parts, place_of};
+use tdb_mount::{MountError, area_at, look_up, mount_parts, place_of};
 
 // At least the largest program unit.
 const WORK_SIZE: usize = 4_096;
@@ -159,23 +159,42 @@ impl<F: Flash> MountedLog<F> {
         place_of(&self.table, &mut self.flash, area, self.hash_bits, key)
     }
 
-    /// Reads the value of the table's entry at a place from `offset` on into `buf`, as much as
-    /// there is and fits, with zeros behind it and after a refusal. The record's CRC is checked on
-    /// the way.
-    pub fn read_value(&mut self, at: u32, offset: u32, buf: &mut [u8]) -> Result<Got, KvError>
+    /// Looks for a key, and gives the header of its record where it was found. The header and the
+    /// key of each record that the search comes to are read once. It refuses as `find` does.
+    pub fn look_up(&mut self, key: &Key) -> Result<Option<PlacedHeader>, KvError>
         requires ready { Ready F.state self.old }
-        requires inside { at < length self.old.table.entries }
         ensures ready { Ready F.state self.new }
         ensures reads { OnlyRead F.state self.old self.new }
-        ensures gives { GivesValue (view_of F.state self.old) (view_of F.state self.new)
-            (offset_in (view_of F.state self.old).log at) offset buf.new result }
+        ensures looks_up { LooksUp (view_of F.state self.old) (view_of F.state self.new) key.now
+            result }
+    {
+        let area = self.area();
+        let seen = look_up(&self.table, &mut self.flash, area, self.hash_bits, key)?;
+        Ok(seen.head)
+    }
+
+    /// Reads the value of a key that was looked up from `offset` on into `buf`, as much as there is
+    /// and fits, with zeros behind it and after a refusal. The record's CRC is checked on the way;
+    /// its header and its key are not read again.
+    pub fn read_value(
+        &mut self,
+        head: &PlacedHeader,
+        key: &Key,
+        offset: u32,
+        buf: &mut [u8],
+    ) -> Result<Got, KvError>
+        requires ready { Ready F.state self.old }
+        requires head { IsHeadOf (view_of F.state self.old) key.now head.now }
+        ensures ready { Ready F.state self.new }
+        ensures reads { OnlyRead F.state self.old self.new }
+        ensures gives { GivesValue (view_of F.state self.old) (view_of F.state self.new) head.now.at
+            offset buf.new result }
         ensures checked { IfOk result (IsChecked (view_of F.state self.old) offset buf.new) }
         ensures within { IfOk result (IsWithin offset (length buf.old)) }
         ensures zeros { AreZerosFrom (read_end result) buf.new }
     {
         let area = self.area();
-        let place = self.table.entry(at).1;
-        area.read_at(&mut self.flash, place, offset, buf, &mut self.work)
+        area.read_behind(&mut self.flash, head, key, offset, buf, &mut self.work)
     }
 
     /// Reads the header of the table's entry at a place. The CRC is not looked at.

@@ -12,7 +12,7 @@ use std::alloc::Global;
 use std::process::Abort;
 use std::test::Fail;
 
-const SMALL: Geometry = Geometry {
+pub(super) const SMALL: Geometry = Geometry {
     prog: 8,
     erase: 64,
     units_per_area: 4,
@@ -30,7 +30,7 @@ const LOG: [u8; 168] = [
     0, 0x46, 0xc0, 0xd8, 0x78, 0x63, 0xff, 0xff, 0xff, 0xff, 0xff, 0xff, 0xff,
 ];
 
-fn image_of_log() -> [u8; 512] {
+pub(super) fn image_of_log() -> [u8; 512] {
     let mut image = [0xff; 512];
     image[..168].copy_from_slice(&LOG);
     image

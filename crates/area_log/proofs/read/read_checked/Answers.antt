@@ -1,10 +1,12 @@
-use Rattle.std.proofs.Common.{ℕ, ◌+◌, ◌-◌, ◌^◌, ◌<◌, List, length, sym, ◌∙◌, ap, arith, inr, rules}
+use Rattle.std.proofs.Common.{ℕ, ◌+◌, ◌-◌, ◌^◌, ◌<◌, List, length, sym, ◌∙◌, ap, subst, arith, inr, rules}
 use Rattle.flash_core.specs.Images.{part}
 use Rattle.flash_core.proofs.KeptLaws.{OnlyReads-trans}
 use Rattle.kv_model.specs.declared.error.KvError.{KvError}
 use Rattle.kv_model.specs.declared.error.KvError.TheVariants.{Corrupt}
+use Rattle.kv_model.specs.Crc.{crc_of}
 use Rattle.record_core.specs.Header.{header_front}
-use Rattle.area_log.proofs.RangeLemmas.{InThree, in_three}
+use Rattle.record_core.specs.Lookup.{IsCrcOf}
+use Rattle.area_log.proofs.RangeLemmas.{InThree, begun_three}
 use Rattle.area_log.proofs.read.read_checked.Goals as goal
 
 corrupt : ℕ → ℕ → KvError
@@ -21,9 +23,10 @@ returns-then-computed-header-clause-cause g c =
     let reads = c.in_ok-before.ensures.reads.kept in
     let behind : ℕ = header.value_size - c.args.skipped - read in
     let n : ℕ = header.key_size + header.value_size in
+    let begun : IsCrcOf s c.args.place c.from.result (crc_of front) c.args.start = subst (λ (k : ℕ). IsCrcOf s c.args.place k (crc_of front) c.args.start) (sym c.from.ensures) c.requires.begun in
     let three : InThree s c.args.place (c.from.result + c.args.skipped) n front c.crc_of_piece.new.piece computed =
-    in_three c.args.place (c.from.result + c.args.skipped) read behind n front c.crc_of_piece.new.piece _ _ _ computed
-    reads (OnlyReads-trans reads c.in_ok-through.ensures.reads.kept) c.crc_of_front-front.ensures c.in_ok-before.ensures.sum
+    begun_three c.args.place c.from.result c.args.skipped read behind n front c.crc_of_piece.new.piece c.args.start _ _ computed
+    reads (OnlyReads-trans reads c.in_ok-through.ensures.reads.kept) begun c.in_ok-before.ensures.sum
     (record { long = c.crc_of_piece.auto.piece; told = c.in_ok-through.ensures.bytes }) c.in_ok-through.ensures.sum c.in_ok-computed.ensures.sum
     (omega (arith, c.from.ensures, c.requires.within)) in
     let fits : computed < 2 ^ 32 = search rules in
@@ -45,9 +48,10 @@ returns-clause-right g c =
     let reads = c.in_ok-before.ensures.reads.kept in
     let behind : ℕ = header.value_size - c.args.skipped - read in
     let n : ℕ = header.key_size + header.value_size in
+    let begun : IsCrcOf s c.args.place c.from.result (crc_of front) c.args.start = subst (λ (k : ℕ). IsCrcOf s c.args.place k (crc_of front) c.args.start) (sym c.from.ensures) c.requires.begun in
     let three : InThree s c.args.place (c.from.result + c.args.skipped) n front c.crc_of_piece.new.piece computed =
-    in_three c.args.place (c.from.result + c.args.skipped) read behind n front c.crc_of_piece.new.piece _ _ _ computed
-    reads (OnlyReads-trans reads c.in_ok-through.ensures.reads.kept) c.crc_of_front-front.ensures c.in_ok-before.ensures.sum
+    begun_three c.args.place c.from.result c.args.skipped read behind n front c.crc_of_piece.new.piece c.args.start _ _ computed
+    reads (OnlyReads-trans reads c.in_ok-through.ensures.reads.kept) begun c.in_ok-before.ensures.sum
     (record { long = c.crc_of_piece.auto.piece; told = c.in_ok-through.ensures.bytes }) c.in_ok-through.ensures.sum c.in_ok-computed.ensures.sum
     (omega (arith, c.from.ensures, c.requires.within)) in
     record {

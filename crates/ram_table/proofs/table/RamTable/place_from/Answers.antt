@@ -61,6 +61,14 @@ returns-in-Equal-clause-place g c keys told =
     present bits keys entries c.args.key.now (c.requires.can.index keys told) at (omega arith) (c.loop-at.invariant.below keys told)
     (key_is ∙ equal_bytes c.key_at.new.out c.args.key.now (sym c.cmp.ensures ∙ c.in-Equal.is))
 
+pub returns-in-Equal-clause-last : goal.returns-in-Equal-clause-last
+returns-in-Equal-clause-last g c found =
+    let reader = c.key_at.new.self in
+    let last : List ℕ → ℕ → Type 0 = λ key offset. g.R.KeyReader.read_last reader offset key in
+    let same = equal_bytes c.key_at.new.out c.args.key.now (sym c.cmp.ensures ∙ c.in-Equal.is) in
+    subst (last c.args.key.now) c.look-entry_hash.ensures.offset
+    (subst (λ (k : List ℕ). last k c.look-entry_hash.result.1) same c.in_ok-key_at.ensures.last)
+
 pub returns-in-Greater-clause-place : goal.returns-in-Greater-clause-place
 returns-in-Greater-clause-place g c keys told =
     let bits = (g.R.KeyReader.state c.args.reader.now).hash_bits in
