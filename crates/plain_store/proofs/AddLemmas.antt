@@ -1,6 +1,6 @@
 -- An add to what is active.
-use Rattle.std.proofs.Common.{◌≡◌, ℕ, zero, suc, ◌+◌, ◌≤◌, ◌==◌, ◌||◌, ◌&&◌, Bool, true, false, nat_le, nat_lt, List, [], ◌∷◌, length, inl, refl, sym, ◌∙◌, ap, subst, arith}
-use Rattle.std.specs.Prelude.{IsTrue, Option, Some, None, IfSome, unwrap_or}
+use Rattle.std.proofs.Common.{◌≡◌, ℕ, zero, suc, ◌+◌, ◌≤◌, ◌==◌, ◌||◌, ◌&&◌, Bool, true, false, nat_le, nat_lt, List, [], ◌∷◌, ◌++◌, length, length-append, inl, refl, sym, ◌∙◌, ap, subst, arith}
+use Rattle.std.specs.Prelude.{IsTrue, Option, Some, None, IfSome, unwrap_or, is_some}
 use Rattle.std.specs.Option.{ForSome}
 use Rattle.std.proofs.lemmas.Bool.Decides.{nat_tests}
 use mathlib.Core.Bool.{false≢true}
@@ -22,6 +22,11 @@ use Rattle.tdb_read.specs.States.{constants_of, kv_state, log_in, state_in}
 use Rattle.tdb_read.specs.Views.{IsReady, LogView}
 use Rattle.tdb_write.specs.Changes.{Changes, unchanged}
 use Rattle.tdb_write.specs.Writing.{is_unprogrammed}
+use Rattle.flash_core.specs.Images.{part}
+use Rattle.base_core.specs.Units.{up}
+use Rattle.inc_set.specs.Units.{programmed, whole_units}
+use Rattle.plain_store.specs.Fed.{HasWholeUnits}
+use Rattle.plain_store.specs.Moments.{CutsStrictly}
 use Rattle.plain_store.specs.Begun.{IsBegun, IsBegunBy}
 use Rattle.plain_store.specs.Sets.{open_of, opened_by, owns, set_in, with_more}
 use Rattle.plain_store.specs.Steps.{AddsTo}
@@ -29,6 +34,7 @@ use Rattle.plain_store.specs.Stores.{IsRunning, IsStopped, IsStore, in_doubt, st
 use Rattle.plain_store.specs.declared.active.ActiveSet.{ActiveSet}
 use Rattle.plain_store.specs.declared.active.Begun.{Begun}
 use Rattle.plain_store.specs.declared.active.Begun.TheVariants.{Remove, Set}
+use Rattle.plain_store.proofs.MomentLemmas.{written}
 use Rattle.plain_store.proofs.StoreLemmas.{owner_is, running_of, view_at}
 use Rattle.plain_store.proofs.WriteLemmas.{done, failed, only_refl, stopped}
 
@@ -183,3 +189,28 @@ module _ (v w : LogView) (active : Option ActiveSet) (note : Option StoreState) 
 
     pub add_stop : IsStopped w state
     add_stop = add_stopped v running.ready its who its_mine value w (running.begun its its_is) it_fits ending changes failed state its_note
+
+  -- each moment of it
+  pub add_cuts : (next : Option ActiveSet) (later : Option StoreState) → (is_some later ≡ true → ending ≡ WriteFailed) → CutsStrictly (view_at v active note) (view_at w next later) who (Add value)
+  add_cuts = written v v w (only_refl v) unchanged (AddsTo v its.begun (length value)) ending changes active note who (Add value) (λ image told. inl refl)
+
+-- ---- what stands of it
+
+all_units : (prog : ℕ) (key bytes : List ℕ) → 1 ≤ length bytes → programmed prog key bytes ≡ whole_units prog (key ++ bytes)
+all_units prog key [] some = absurd (omega (arith, some))
+all_units prog key (x ∷ bytes) some = refl
+
+module _ (v : LogView) (value : List ℕ) (some : 1 ≤ length value) where
+  longer : (before bytes : List ℕ) → bytes ≡ before ++ value → 1 ≤ length bytes
+  longer before bytes is = let long : length bytes ≡ length before + length value = ap length is ∙ length-append before value in omega (arith, long, some)
+
+  has_units : (owner : ℕ) (begun : Begun) → IsBegunBy v begun → (before : List ℕ) → (opened_by owner begun).bytes ≡ before ++ value → HasWholeUnits v (opened_by owner begun)
+  has_units owner (Set set place fed) is before more image told =
+      subst (λ (at : ℕ). part image (at + up v.device.geometry.prog 24) (length (whole_units v.device.geometry.prog (set.key ++ fed.bytes))) ≡ whole_units v.device.geometry.prog (set.key ++ fed.bytes))
+      is.writing.at_end.at_end
+      (subst (λ (units : List ℕ). part image (set.at + up v.device.geometry.prog 24) (length units) ≡ units)
+      (all_units v.device.geometry.prog set.key fed.bytes (longer before fed.bytes more)) (is.writing.holds.has.stands image told))
+  has_units owner (Remove key place copied) is before more image told = absurd (omega (arith, longer before [] more))
+
+  pub add_holds : (next : ActiveSet) → IsBegun v next → (before : List ℕ) → (open_of next).bytes ≡ before ++ value → ForSome (set_in (Some next)) (HasWholeUnits v)
+  add_holds next is before more set set_is = subst (HasWholeUnits v) (ap (λ (o : Option OpenSet). unwrap_or o (open_of next)) set_is) (has_units next.owner next.begun is before more)

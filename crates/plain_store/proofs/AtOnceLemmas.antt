@@ -1,6 +1,6 @@
 -- A set that is written at once.
 use Rattle.std.proofs.Common.{◌≡◌, ◌⊎◌, ℕ, ◌+◌, ◌-◌, ◌%◌, ◌^◌, Bool, true, false, List, [], ◌∷◌, ◌++◌, length, inl, inr, refl, sym, ◌∙◌, ap, subst, append-nil}
-use Rattle.std.specs.Prelude.{MatchBool, Option, Some, None, unwrap_or, IsTrue, Result, Ok, Err, IfErr}
+use Rattle.std.specs.Prelude.{MatchBool, Option, Some, None, unwrap_or, IsTrue, Result, Ok, Err, IfErr, is_some}
 use Rattle.flash_core.specs.declared.geometry.Geometry.{Geometry}
 use Rattle.flash_core.specs.Runs.{Done, Ending, WriteFailed}
 use Rattle.flash_core.proofs.KeptLaws.{told_after}
@@ -29,11 +29,13 @@ use Rattle.tdb_read.specs.Views.{IsReady, LogPart, LogView}
 use Rattle.tdb_write.specs.Changes.{ByEnding, Changes, MakesRoom, unchanged}
 use Rattle.tdb_write.specs.Writing.{IsAppended, IsFed}
 use Rattle.tdb_write.proofs.JoinLemmas.{callers_then, changes_then}
+use Rattle.plain_store.specs.Moments.{CutsStrictly}
 use Rattle.plain_store.specs.Setting.{CanSet, HasLookedUp, IsAllowed, size_at, write_of}
 use Rattle.plain_store.specs.Sets.{set_in}
 use Rattle.plain_store.specs.Steps.{SetsRecord}
 use Rattle.plain_store.specs.Stores.{Calls, IsStopped, IsStore, in_doubt, state_by}
 use Rattle.plain_store.specs.declared.active.ActiveSet.{ActiveSet}
+use Rattle.plain_store.proofs.MomentLemmas.{written}
 use Rattle.plain_store.proofs.PartLemmas.{applied_set}
 use Rattle.plain_store.proofs.SetLemmas.{mid, none_refuses, only_looked, start_reads, start_writes}
 use Rattle.plain_store.proofs.StartLemmas.{fits, moved, over_failed, over_free, unprotected}
@@ -196,3 +198,12 @@ module _ (v w x : LogView) (active : Option ActiveSet) (note : Option StoreState
 
     pub set_stop : IsStopped x state
     set_stop = has_stopped v w x ready looked who key value flags active its_allowed place can ending changes is_failed state its_note
+
+  -- each moment of it
+  pub set_cuts : (next : Option ActiveSet) (later : Option StoreState) → (is_some later ≡ true → ending ≡ WriteFailed) → CutsStrictly (view_at v active note) (view_at x next later) who (Set bytes value flags)
+  set_cuts next later fails =
+      subst (λ (k : List ℕ). CutsStrictly (view_at v active note) (view_at x next later) who (Set k value flags)) key_is
+      (subst (λ (a : Option ActiveSet). CutsStrictly (view_at v a note) (view_at x next later) who (Set key value flags)) (sym allowed.free)
+      (written v (mid v w looked) x (only_looked v w looked) (applied (write_of key value flags)) (SetsRecord (mid v w looked) (write_of key value flags)) ending
+      (since_look v w x ready looked who key value flags active its_allowed place can ending changes) None note who (Set key value flags)
+      (to_step v w x ready looked who key value flags active its_allowed place can ending changes) next later fails))

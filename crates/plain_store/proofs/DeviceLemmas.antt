@@ -61,13 +61,14 @@ module _ (d : FlashState) (log : LogPart) (label : List ℕ) (steady sound : Boo
   stood maps is = record { primary = is.primary; rollback = is.rollback }
 
   stopped_stood : (maps : Maps) → StoppedMaps after maps → StoppedMaps before maps
-  stopped_stood maps is = record { call = is.call; tells = is.tells; torn = is.torn; unlikely = is.unlikely; stands = stood maps is.stands }
+  stopped_stood maps is = record { tells = is.tells; unlikely = is.unlikely; stands = stood maps is.stands }
 
   still_stopped : (noted : StoreState) → IsStopped before noted → IsStopped after noted
   still_stopped noted is = record {
     hash_bits = is.hash_bits;
     doubt = is.doubt;
     is = is.is;
+    number = is.number;
     stands = λ image told maps stands. is.stands image told maps (stopped_stood maps stands);
   }
 

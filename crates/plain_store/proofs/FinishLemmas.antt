@@ -1,6 +1,6 @@
 -- The finish of what is active.
 use Rattle.std.proofs.Common.{◌≡◌, ℕ, ◌+◌, ◌≤◌, ◌==◌, true, false, nat_lt, List, [], length, inr, refl, sym, ◌∙◌, ap, subst, arith}
-use Rattle.std.specs.Prelude.{IsTrue, Option, Some, None, unwrap_or}
+use Rattle.std.specs.Prelude.{IsTrue, Option, Some, None, unwrap_or, is_some}
 use Rattle.std.specs.Option.{ForSome}
 use Rattle.std.proofs.lemmas.Bool.Decides.{nat_tests}
 use Rattle.flash_core.specs.Runs.{Done, Ending, WriteFailed}
@@ -20,10 +20,12 @@ use Rattle.kv_model.specs.StoreState.{OpenSet, StoreState}
 use Rattle.tdb_read.specs.States.{constants_of, kv_state, log_in, state_in}
 use Rattle.tdb_read.specs.Views.{IsReady, LogView}
 use Rattle.tdb_write.specs.Changes.{Changes}
+use Rattle.plain_store.specs.Moments.{CutsStrictly}
 use Rattle.plain_store.specs.Sets.{open_of, owns, set_in}
 use Rattle.plain_store.specs.Steps.{FinishesTo, finished_by}
 use Rattle.plain_store.specs.Stores.{IsRunning, IsStopped, IsStore, in_doubt, state_by}
 use Rattle.plain_store.specs.declared.active.ActiveSet.{ActiveSet}
+use Rattle.plain_store.proofs.MomentLemmas.{written}
 use Rattle.plain_store.proofs.PartLemmas.{finish_follows}
 use Rattle.plain_store.proofs.StoreLemmas.{owner_is, running_of, view_at}
 use Rattle.plain_store.proofs.WriteLemmas.{done, failed, only_refl, stopped}
@@ -120,3 +122,9 @@ module _ (v w : LogView) (active : Option ActiveSet) (note : Option StoreState) 
 
     pub finish_stop : IsStopped w state
     finish_stop = finish_stopped v running.ready its who its_mine its_whole w ending changes is_failed state its_note
+
+  -- each moment of it
+  pub finish_cuts : (next : Option ActiveSet) (later : Option StoreState) → (is_some later ≡ true → ending ≡ WriteFailed) → CutsStrictly (view_at v active note) (view_at w next later) who Finish
+  finish_cuts = written v v w (only_refl v) (finished_by its) (FinishesTo v its.begun) ending changes active note who Finish
+      (λ image told. inr (sym (ap (λ (o : Option OpenSet). (plain_step (constants_of v.device.geometry v.log) (state_in v.device.geometry v.log o image) who Finish).state.primary) (ap set_in its_is)
+      ∙ ap (λ (o : Outcome). o.state.primary) (steps v running.ready its who its_mine its_whole w ending changes image))))

@@ -19,3 +19,4 @@ pub mod LookLemmas
 pub mod SetLemmas
 pub mod StartLemmas
 pub mod AtOnceLemmas
+pub mod MomentLemmas

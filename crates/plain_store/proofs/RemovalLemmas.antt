@@ -28,10 +28,12 @@ use Rattle.tdb_read.specs.Views.{HasOnlyRead, IsReady, LogPart, LogView}
 use Rattle.tdb_read.proofs.AnswerLemmas.{refused, ruled}
 use Rattle.tdb_read.proofs.GetLemmas.{only_read}
 use Rattle.tdb_write.specs.Changes.{Changes, IsCopyRefusal}
+use Rattle.plain_store.specs.Moments.{CutsStrictly}
 use Rattle.plain_store.specs.Removing.{HasKeyOnce, IsRemoveRefusal, IsThere}
 use Rattle.plain_store.specs.Sets.{set_in}
 use Rattle.plain_store.specs.Stores.{IsStopped, IsStore, in_doubt, state_by}
 use Rattle.plain_store.specs.declared.active.ActiveSet.{ActiveSet}
+use Rattle.plain_store.proofs.MomentLemmas.{written}
 use Rattle.plain_store.proofs.StoreLemmas.{running_of, view_at}
 use Rattle.plain_store.proofs.WriteLemmas.{done, failed, read_failed, stopped}
 
@@ -178,6 +180,13 @@ module _ (old mid new : LogView) (active : Option ActiveSet) (note : Option Stor
   either : (image : List ℕ) → old.device.image ≡ Some image
       → (after (map_in old.device.geometry old.log image) ≡ map_in old.device.geometry old.log image) ⊎ (after (map_in old.device.geometry old.log image) ≡ (plain_step consts (first_state image) who (of key)).state.primary)
   either image told = inr (sym (ap (λ (o : Outcome). o.state.primary) (steps image told)))
+
+  -- each moment of it
+  pub removal_cuts : (to : Option ActiveSet) (later : Option StoreState) → (is_some later ≡ true → ending ≡ WriteFailed) → CutsStrictly (view_at old active note) (view_at new to later) who (of bytes)
+  removal_cuts to later fails =
+      subst (λ (k : List ℕ). CutsStrictly (view_at old active note) (view_at new to later) who (of k)) key_is
+      (subst (λ (a : Option ActiveSet). CutsStrictly (view_at old a note) (view_at new to later) who (of key)) (sym free)
+      (written old mid new read after Step ending changes None note who (of key) either to later fails))
 
   module _ (is : ending ≡ WriteFailed) (state : StoreState)
       (noted : state ≡ in_doubt (state_in old.device.geometry old.log (set_in active) (unwrap_or old.device.image [])) who (of key)) where

@@ -1,6 +1,6 @@
 -- A reset of a store that runs.
 use Rattle.std.proofs.Common.{◌≡◌, ℕ, ◌+◌, ◌-◌, ◌%◌, ◌^◌, true, List, [], ◌∷◌, ◌++◌, inr, refl, sym, ◌∙◌, ap, subst, arith}
-use Rattle.std.specs.Prelude.{IsTrue, Option, Some, None, unwrap_or}
+use Rattle.std.specs.Prelude.{IsTrue, Option, Some, None, is_some, unwrap_or}
 use Rattle.std.specs.FinMap as map
 use Rattle.flash_core.specs.Runs.{Done, Ending, WriteFailed}
 use Rattle.kv_model.specs.declared.call.Reply.{Reply}
@@ -24,9 +24,11 @@ use Rattle.tdb_read.specs.Views.{IsReady, LogView}
 use Rattle.tdb_write.specs.Changes.{Changes, IsEmptied}
 use Rattle.tdb_write.specs.Copying.{emptied}
 use Rattle.tdb_write.proofs.LiveLemmas.{live_spent}
+use Rattle.plain_store.specs.Moments.{CutsStrictly}
 use Rattle.plain_store.specs.Sets.{set_in}
 use Rattle.plain_store.specs.Stores.{IsStopped, IsStore, in_doubt, state_by}
 use Rattle.plain_store.specs.declared.active.ActiveSet.{ActiveSet}
+use Rattle.plain_store.proofs.MomentLemmas.{written}
 use Rattle.plain_store.proofs.StoreLemmas.{running_of, view_at}
 use Rattle.plain_store.proofs.WriteLemmas.{done, failed, only_refl, stopped}
 
@@ -93,3 +95,8 @@ module _ (v w : LogView) (active : Option ActiveSet) (note : Option StoreState) 
     reset_stop = stopped v v w ready (only_refl v) emptied IsEmptied ending changes is None who Reset
         (λ image told. inr (sym (ap (λ (o : Outcome). o.state.primary) (reset_step constants (before image) who refl refl)))) state note_is
         ready.safe.hash_bits (ap (λ (s : StoreState). s.doubt) noted)
+
+  -- each moment of it
+  pub reset_cuts : (next : Option ActiveSet) (later : Option StoreState) → (is_some later ≡ true → ending ≡ WriteFailed) → CutsStrictly (view_at v active note) (view_at w next later) who Reset
+  reset_cuts = written v v w (only_refl v) emptied IsEmptied ending changes active note who Reset
+      (λ image told. inr (sym (ap (λ (o : Outcome). o.state.primary) (reset_step constants (state_in v.device.geometry v.log (set_in active) image) who refl (ap set_in free)))))

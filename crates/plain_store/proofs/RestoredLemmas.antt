@@ -300,10 +300,12 @@ some_same {X} x y same = ap (λ (o : Option X). unwrap_or o x) same
 back_stopped : (v : LogView) (state : StoreState) → IsGivenBack (IsStopped v state)
 back_stopped v state some =
     let doubt = doubt_in state.doubt (∥∥₁_map some (λ s. (s.doubt, s.is))) in
+    let number_fact : IsProp (ForSome v.device.image (λ image. state.next_vector ≡ 1)) = hlevel props in
     record {
       hash_bits = back_fact (hlevel props) (∥∥₁_map some (λ s. s.hash_bits));
       doubt = doubt.0;
       is = doubt.1;
+      number = back_fact number_fact (∥∥₁_map some (λ s. s.number));
       stands = λ image told maps stands.
           let among : Doubt → Type 0 = λ d. Contains (cuts (plain_rules (constants_of v.device.geometry v.log)) state d.who d.operation) maps in
           back_known (known_among (cuts (plain_rules (constants_of v.device.geometry v.log)) state doubt.0.who doubt.0.operation) maps)

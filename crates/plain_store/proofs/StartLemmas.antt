@@ -1,6 +1,6 @@
 -- A set that is begun.
 use Rattle.std.proofs.Common.{◌≡◌, ℕ, ◌+◌, ◌<◌, ◌≤◌, ◌||◌, true, false, not, nat_lt, List, [], length, inl, inr, refl, sym, ◌∙◌, ap, subst, arith}
-use Rattle.std.specs.Prelude.{IsTrue, MatchBool, Option, Some, None, unwrap_or}
+use Rattle.std.specs.Prelude.{IsTrue, MatchBool, Option, Some, None, unwrap_or, is_some}
 use Rattle.std.proofs.lemmas.Bool.{cases_eq}
 use Rattle.std.proofs.lemmas.Bool.Decides.{nat_tests}
 use Rattle.base_core.specs.Sizes.{record_size}
@@ -38,12 +38,14 @@ use Rattle.tdb_read.specs.States.{constants_of, kv_state, log_in, state_in}
 use Rattle.tdb_read.specs.Views.{IsReady, LogPart, LogView}
 use Rattle.tdb_write.specs.Changes.{Changes, IsCopyRefusal, IsReserved, KeepsPlaces, MakesRoom, unchanged}
 use Rattle.tdb_write.specs.Writing.{IsWriting, SameButUnit}
+use Rattle.plain_store.specs.Moments.{CutsStrictly}
 use Rattle.plain_store.specs.Begun.{IsBegun, IsSetBegun}
 use Rattle.plain_store.specs.Setting.{CanSet, HasLookedUp, IsAllowed, size_at}
 use Rattle.plain_store.specs.Sets.{open_of, set_in}
 use Rattle.plain_store.specs.Stores.{Calls, IsStopped, IsStore, in_doubt, state_by}
 use Rattle.plain_store.specs.declared.active.ActiveSet.{ActiveSet}
 use Rattle.plain_store.specs.declared.active.Begun.TheVariants.{Set}
+use Rattle.plain_store.proofs.MomentLemmas.{written}
 use Rattle.plain_store.proofs.CallLemmas.{some_is}
 use Rattle.plain_store.proofs.PartLemmas.{key_sizes}
 use Rattle.plain_store.proofs.SetLemmas.{mid, none_refuses, only_looked, open_before, space_before, start_reads, start_writes}
@@ -252,3 +254,8 @@ module _ (v w x : LogView) (active : Option ActiveSet) (note : Option StoreState
 
     pub start_stop : IsStopped x state
     start_stop = start_stopped v w x ready looked who key size flags active its_allowed place can ending changes is_failed state its_note
+
+  -- each moment of it
+  pub start_cuts : (next : Option ActiveSet) (later : Option StoreState) → (is_some later ≡ true → ending ≡ WriteFailed) → CutsStrictly (view_at v active note) (view_at x next later) who (Start bytes size flags)
+  start_cuts = written v (mid v w looked) x (only_looked v w looked) unchanged (MakesRoom (mid v w looked) (size_at w key size)) ending
+      (since_look v w x ready looked who key size flags active its_allowed place can ending changes) active note who (Start bytes size flags) (λ image told. inl refl)

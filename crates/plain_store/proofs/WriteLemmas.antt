@@ -254,9 +254,8 @@ module _ (old mid new : LogView) (ready : IsReady old) (read : HasOnlyRead old m
         (changes.runs.failed image (read.device.image ∙ told)) left now in
         elim (inside.told stand.tells) [
           | inl torn ↦
-              let same : inside.call ≡ stand.call = some_is (sym torn ∙ stand.torn) in
               let unlikely : IsUnlikely g (Some inside.call) left =
-              subst (λ (c : DeviceCall). IsUnlikely g (Some c) left) (sym same) (subst (λ (x : Geometry). IsUnlikely x (Some stand.call) left) geometry (stand.unlikely left now)) in
+              subst (λ (x : Geometry). IsUnlikely x (Some inside.call) left) geometry (stand.unlikely inside.call torn left now) in
               one_of g (map_at image) (after (map_at image)) (Some inside.call) left (leaves image (Some inside.call) left inside.inside) unlikely
           | inr whole ↦ leaves image None left whole
         ]
@@ -266,6 +265,9 @@ module _ (old mid new : LogView) (ready : IsReady old) (read : HasOnlyRead old m
       hash_bits = subst (λ (n : ℕ). n ≤ 32) (sym hash_bits) bits;
       doubt = record { who = who; operation = operation };
       is = doubt;
+      number = λ left now.
+          let was = told_before changes.runs.kept now in
+          ap (λ (s : StoreState). s.next_vector) (noted was.0 (sym read.device.image ∙ was.1));
       stands = λ left now maps stand.
           let was = told_before changes.runs.kept now in
           let told : old.device.image ≡ Some was.0 = sym read.device.image ∙ was.1 in

@@ -6,3 +6,5 @@ pub mod Removing
 pub mod Setting
 pub mod Stores
 pub mod Faults
+pub mod Moments
+pub mod Fed

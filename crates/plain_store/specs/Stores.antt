@@ -22,12 +22,10 @@ pub record StoreView : Type 1 where
   pub note : Option StoreState
 
 -- The maps to which the image of a stopped store may mount, where no torn record is there by chance inside the call
--- that the device tells as torn.
+-- that the device tells as torn, if it tells one.
 pub record StoppedMaps (v : LogView) (maps : Maps) : Type 0 where
-  pub call : DeviceCall
   pub tells : IsTrue v.device.tells_torn
-  pub torn : v.device.torn ≡ Some call
-  pub unlikely : ForSome v.device.image (IsUnlikely v.device.geometry (Some call))
+  pub unlikely : (call : DeviceCall) → v.device.torn ≡ Some call → ForSome v.device.image (IsUnlikely v.device.geometry (Some call))
   pub stands : MapsStand v.device.geometry v.device maps
 
 -- A store that runs is its log with the active set beside it. One that was stopped has the state that was noted.
@@ -52,6 +50,8 @@ pub record IsStopped (v : LogView) (state : StoreState) : Type 0 where
   pub hash_bits : v.log.hash_bits ≤ 32
   pub doubt : Doubt
   pub is : state.doubt ≡ Some doubt
+  -- a plain store takes no number
+  pub number : ForSome v.device.image (λ image. state.next_vector ≡ 1)
   pub stands : ForSome v.device.image (λ image. (maps : Maps) → StoppedMaps v maps
       → Contains (cuts (plain_rules (constants_of v.device.geometry v.log)) state doubt.who doubt.operation) maps)
 

@@ -10,6 +10,8 @@ ghost use Rattle.record_core.specs.Endings.{kv_ended};
 ghost use Rattle.tdb_read.specs.Views.{Ready, view_of};
 ghost use Rattle.tdb_write.specs.Changes.{Changes, unchanged};
 ghost use Rattle.plain_store.specs.Begun.{IsBegun};
+ghost use Rattle.plain_store.specs.Fed.{StandsSoFar};
+ghost use Rattle.plain_store.specs.Moments.{CutsBy};
 ghost use Rattle.plain_store.specs.Sets.{open_of, set_in, with_more};
 ghost use Rattle.plain_store.specs.Steps.{AddsTo};
 ghost use Rattle.plain_store.specs.Stores.{CallsBy, Is, IsRunning};
@@ -78,6 +80,9 @@ impl<F: Flash> PlainStore<F> {
         ensures is { Is F.state self.new }
         ensures answers { CallsBy F.state self.old self.new
             (answered who (Add value.now) (done_or result)) }
+        ensures moments { CutsBy F.state self.old self.new who (Add value.now) }
+        ensures long_writer { 1 ≤ length value.now → IfOk result (λ done.
+            StandsSoFar F.state self.new) }
     {
         self.check_running()?;
         self.check_owner(who)?;

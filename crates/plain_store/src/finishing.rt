@@ -8,6 +8,7 @@ ghost use Rattle.record_core.specs.Endings.{kv_ended};
 ghost use Rattle.tdb_read.specs.Views.{Ready, view_of};
 ghost use Rattle.tdb_write.specs.Changes.{Changes};
 ghost use Rattle.plain_store.specs.Begun.{IsBegun};
+ghost use Rattle.plain_store.specs.Moments.{CutsBy};
 ghost use Rattle.plain_store.specs.Sets.{open_of};
 ghost use Rattle.plain_store.specs.Steps.{FinishesTo, finished_by};
 ghost use Rattle.plain_store.specs.Stores.{CallsBy, Is};
@@ -56,6 +57,7 @@ impl<F: Flash> PlainStore<F> {
         ensures is { Is F.state self.new }
         ensures answers { CallsBy F.state self.old self.new
             (answered who Finish (done_or result)) }
+        ensures moments { CutsBy F.state self.old self.new who Finish }
     {
         self.check_running()?;
         self.check_owner(who)?;

@@ -11,6 +11,7 @@ ghost use Rattle.tdb_write.specs.Changes.{Changes, IsCopyRefusal, LogStands, unc
 ghost use Rattle.tdb_write.specs.Copying.{without};
 ghost use Rattle.plain_store.specs.Begun.{IsRemoveBegun, must_collect};
 ghost use Rattle.plain_store.specs.Removing.{CanRemove, IsFreeFor, IsRemoveRefusal, RemovesFrom, remove_refusal};
+ghost use Rattle.plain_store.specs.Moments.{CutsBy};
 ghost use Rattle.plain_store.specs.Stores.{CallsBy, Is};
 
 use crate::finishing::finish_begun;
@@ -126,6 +127,7 @@ impl<F: Flash> PlainStore<F> {
         ensures is { Is F.state self.new }
         ensures answers { CallsBy F.state self.old self.new
             (answered who (RemoveStart key.now) (done_or result)) }
+        ensures moments { CutsBy F.state self.old self.new who (RemoveStart key.now) }
     {
         self.check_running()?;
         let key = self.check_remove(who, key)?;
@@ -155,6 +157,7 @@ impl<F: Flash> PlainStore<F> {
         ensures is { Is F.state self.new }
         ensures answers { CallsBy F.state self.old self.new
             (answered who (Remove key.now) (done_or result)) }
+        ensures moments { CutsBy F.state self.old self.new who (Remove key.now) }
     {
         self.check_running()?;
         let key = self.check_remove(who, key)?;

@@ -3,6 +3,7 @@ ghost use Rattle.std.specs.Prelude.{◌≡◌};
 ghost use Rattle.kv_model.specs.Given.{done_or};
 ghost use Rattle.kv_model.specs.Kv.{answered};
 ghost use Rattle.kv_model.specs.Operations.{Reset};
+ghost use Rattle.plain_store.specs.Moments.{CutsBy};
 ghost use Rattle.plain_store.specs.Stores.{CallsBy, Is};
 
 use crate::PlainStore;
@@ -17,6 +18,7 @@ impl<F: Flash> PlainStore<F> {
         ensures is { Is F.state self.new }
         ensures answers { CallsBy F.state self.old self.new
             (answered who Reset (done_or result)) }
+        ensures moments { CutsBy F.state self.old self.new who Reset }
     {
         self.check_running()?;
         self.check_free(who)?;

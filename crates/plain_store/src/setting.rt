@@ -15,6 +15,7 @@ ghost use Rattle.tdb_read.specs.Views.{OnlyRead, Ready, view_of};
 ghost use Rattle.tdb_write.specs.Changes.{Changes, IsCopyRefusal, MakesRoom, unchanged};
 ghost use Rattle.tdb_write.specs.Writing.{IsAppended};
 ghost use Rattle.plain_store.specs.Begun.{IsSetBegun};
+ghost use Rattle.plain_store.specs.Moments.{CutsBy};
 ghost use Rattle.plain_store.specs.Setting.{CanSet, HasLookedUp, IsAllowed, IsProtected, IsProtectedOr, IsSetRefusal, early_refusal, size_at, write_of};
 ghost use Rattle.plain_store.specs.Steps.{SetsRecord};
 ghost use Rattle.plain_store.specs.Stores.{CallsBy, Is};
@@ -179,6 +180,8 @@ impl<F: Flash> PlainStore<F> {
         ensures is { Is F.state self.new }
         ensures answers { CallsBy F.state self.old self.new
             (answered who (Start key.now size flags.bits) (done_or result)) }
+        ensures moments { CutsBy F.state self.old self.new who
+            (Start key.now size flags.bits) }
     {
         self.check_running()?;
         let key = self.check_set(who, key, size as usize, flags)?;
@@ -210,6 +213,8 @@ impl<F: Flash> PlainStore<F> {
         ensures is { Is F.state self.new }
         ensures answers { CallsBy F.state self.old self.new
             (answered who (SetOf key.now value.now flags.bits) (done_or result)) }
+        ensures moments { CutsBy F.state self.old self.new who
+            (SetOf key.now value.now flags.bits) }
     {
         self.check_running()?;
         let key = self.check_set(who, key, value.len(), flags)?;

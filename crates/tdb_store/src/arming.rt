@@ -1,7 +1,8 @@
 // What a store over a chip is told to fail at.
-ghost use Rattle.std.specs.Prelude.{◌≡◌};
-ghost use Rattle.flash_sim.specs.ChipState.{after_naming};
+ghost use Rattle.std.specs.Prelude.{◌≡◌, ◌≤◌, IfOk, OnErr};
+ghost use Rattle.flash_sim.specs.ChipState.{after_arm, after_naming};
 ghost use Rattle.flash_sim.specs.Views.{view_of};
+ghost use Rattle.kv_model.specs.Arming.{Arms};
 ghost use Rattle.plain_store.specs.Faults.{IsSameButFaults};
 
 use crate::TdbStore;
@@ -10,7 +11,16 @@ use kv_model::{Armable, Kv, NoMemory, Pattern};
 use std::alloc::Global;
 
 impl Armable for TdbStore<Chip> {
-    fn arm(&mut self, alloc: Global, n: u32, pattern: Pattern) -> Result<(), NoMemory> {
+    /// Arms the chip, and nothing else.
+    fn arm(&mut self, alloc: Global, n: u32, pattern: Pattern) -> Result<(), NoMemory>
+        requires { 1 ≤ n }
+        ensures arms { Arms (⟦<TdbStore<Chip> as Kv>⟧.state self.old)
+            (⟦<TdbStore<Chip> as Kv>⟧.state self.new) pattern result }
+        ensures armed { IfOk result (λ _. view_of self.new.store.log.flash
+            ≡ after_arm (view_of self.old.store.log.flash) n pattern) }
+        ensures same { OnErr result (view_of self.new.store.log.flash
+            ≡ view_of self.old.store.log.flash) }
+    {
         self.store.log.flash.arm(alloc, n, pattern)
     }
 }

@@ -1,4 +1,4 @@
-use Rattle.std.proofs.Common.{rules, ◌≡◌, None, refl, ◌∙◌, ap}
+use Rattle.std.proofs.Common.{rules, ◌≡◌, None, refl, ◌∙◌, ap, Some}
 use Rattle.kv_model.specs.declared.error.KvError.TheVariants.{WriteFault}
 use Rattle.kv_model.specs.StoreState.{StoreState}
 use Rattle.kv_model.specs.Operations.{Remove}
@@ -8,7 +8,7 @@ use Rattle.tdb_write.specs.Copying.{without}
 use Rattle.plain_store.specs.Removing.{RemovesFrom}
 use Rattle.plain_store.specs.Sets.{set_in}
 use Rattle.plain_store.specs.Stores.{in_doubt, noted_in}
-use Rattle.plain_store.proofs.RemovalLemmas.{removes, look_up_refused, removed, removal_doubted, removal_stop, removal_unread}
+use Rattle.plain_store.proofs.RemovalLemmas.{removes, look_up_refused, removed, removal_doubted, removal_stop, removal_unread, removal_cuts}
 use Rattle.plain_store.proofs.RemovedLemmas.{remove_follows}
 use Rattle.plain_store.proofs.StoreLemmas.{running_of}
 use Rattle.plain_store.proofs.plain.PlainStore.remove.Goals as goal
@@ -68,3 +68,14 @@ returns-else-eq-clause-answers g c =
     (ap noted_in c.in_ok-check_running.ensures) c.requires.is c.in_ok-key.ensures.allowed.free c.args.who c.in_ok-key.key c.args.key.now c.in_ok-key.ensures.key c.in_ok-key.ensures.allowed.valid
     Remove removes c.in_ok-place.ensures.reads c.in_ok-place.ensures.can.replaceable None (without c.in_ok-key.key) (RemovesFrom mid c.in_ok-key.key) (λ image. refl) _ c.in-Err.ensures.changes
     c.in-Err.error refl no_fault c.in-Err.ensures.refusal
+
+pub returns-then-eq-clause-moments : goal.returns-then-eq-clause-moments
+returns-then-eq-clause-moments g c runs =
+    let old = view_of g.F.Flash.state c.args.self.now.log in
+    let mid = view_of g.F.Flash.state c.find_removable.new.log in
+    let new = view_of g.F.Flash.state c.remove_found.new.log in
+    let fault : c.in-Err.error ≡ WriteFault = search rules in
+    removal_cuts old mid new c.args.self.now.active (noted_in c.args.self.now.stopped)
+    (ap noted_in c.in_ok-check_running.ensures) c.requires.is c.in_ok-key.ensures.allowed.free c.args.who c.in_ok-key.key c.args.key.now c.in_ok-key.ensures.key c.in_ok-key.ensures.allowed.valid
+    Remove removes c.in_ok-place.ensures.reads c.in_ok-place.ensures.can.replaceable None (without c.in_ok-key.key) (RemovesFrom mid c.in_ok-key.key) (λ image. refl) _ c.in-Err.ensures.changes
+    c.args.self.now.active (Some c.note_remove-note.result.state) (λ stopped. ap kv_ending fault)

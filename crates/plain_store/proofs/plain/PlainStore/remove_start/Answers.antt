@@ -7,7 +7,7 @@ use Rattle.tdb_read.specs.Views.{view_of}
 use Rattle.tdb_write.specs.Changes.{LogStands, unchanged}
 use Rattle.plain_store.specs.Sets.{set_in}
 use Rattle.plain_store.specs.Stores.{in_doubt, noted_in}
-use Rattle.plain_store.proofs.RemovalLemmas.{begins, look_up_refused, removal_done, removal_doubted, removal_stop, removal_unread}
+use Rattle.plain_store.proofs.RemovalLemmas.{begins, look_up_refused, removal_done, removal_doubted, removal_stop, removal_unread, removal_cuts}
 use Rattle.plain_store.proofs.plain.PlainStore.remove_start.Goals as goal
 
 pub returns-in_err-place-clause-answers : goal.returns-in_err-place-clause-answers
@@ -63,3 +63,14 @@ returns-else-eq-clause-answers g c =
     (ap noted_in c.in_ok-check_running.ensures) c.requires.is c.in_ok-key.ensures.allowed.free c.args.who c.in_ok-key.key c.args.key.now c.in_ok-key.ensures.key c.in_ok-key.ensures.allowed.valid
     RemoveStart begins c.in_ok-place.ensures.reads c.in_ok-place.ensures.can.replaceable (Some (begun_remove c.args.who c.in_ok-key.key)) unchanged LogStands (λ image. refl) _ c.in-Err.ensures.changes
     c.in-Err.error refl no_fault c.in-Err.ensures.refusal
+
+pub returns-then-eq-clause-moments : goal.returns-then-eq-clause-moments
+returns-then-eq-clause-moments g c runs =
+    let old = view_of g.F.Flash.state c.args.self.now.log in
+    let mid = view_of g.F.Flash.state c.find_removable.new.log in
+    let new = view_of g.F.Flash.state c.ready_remove.new.log in
+    let fault : c.in-Err.error ≡ WriteFault = search rules in
+    removal_cuts old mid new c.args.self.now.active (noted_in c.args.self.now.stopped)
+    (ap noted_in c.in_ok-check_running.ensures) c.requires.is c.in_ok-key.ensures.allowed.free c.args.who c.in_ok-key.key c.args.key.now c.in_ok-key.ensures.key c.in_ok-key.ensures.allowed.valid
+    RemoveStart begins c.in_ok-place.ensures.reads c.in_ok-place.ensures.can.replaceable (Some (begun_remove c.args.who c.in_ok-key.key)) unchanged LogStands (λ image. refl) _ c.in-Err.ensures.changes
+    c.args.self.now.active (Some c.note_remove_start-note.result.state) (λ stopped. ap kv_ending fault)

@@ -1,11 +1,11 @@
 use Rattle.std.proofs.Common.{rules, ◌≡◌, Some, refl, ◌∙◌, ap}
-use Rattle.kv_model.specs.StoreState.{StoreState}
+use Rattle.kv_model.specs.StoreState.{OpenSet, StoreState}
 use Rattle.kv_model.specs.Operations.{Add}
 use Rattle.record_core.specs.Endings.{kv_ending}
 use Rattle.tdb_read.specs.Views.{view_of}
 use Rattle.plain_store.specs.Sets.{set_in}
 use Rattle.plain_store.specs.Stores.{in_doubt, noted_in}
-use Rattle.plain_store.proofs.AddLemmas.{add_done, add_doubted, add_stop}
+use Rattle.plain_store.proofs.AddLemmas.{add_done, add_doubted, add_holds, add_stop, add_cuts}
 use Rattle.plain_store.proofs.plain.PlainStore.set_add.Goals as goal
 
 pub returns-in-Ok-clause-answers : goal.returns-in-Ok-clause-answers
@@ -30,3 +30,14 @@ returns-in-Err-clause-answers g c =
     (ap noted_in c.in_ok-check_running.ensures) c.requires.is c.in-Some.active its_is c.args.who c.in_ok-check_owner.ensures c.args.value.now
     c.bytes_left.result c.bytes_left.ensures c.if-value-bytes_left.false _ c.in-Err.ensures.changes (ap kv_ending c.in-Err.ensures.fault) c.note_add.result.state
     (c.note_add.ensures ∙ ap (λ (s : StoreState). in_doubt s c.args.who (Add c.args.value.now)) c.note_state-before.ensures) (set_in c.take.new.self) c.in-Err.error c.in-Err.ensures.fault
+
+pub returns-in-Err-clause-moments : goal.returns-in-Err-clause-moments
+returns-in-Err-clause-moments g c runs =
+    let its_is : c.args.self.now.active ≡ Some c.in-Some.active = search rules in
+    add_cuts (view_of g.F.Flash.state c.args.self.now.log) (view_of g.F.Flash.state c.feed_begun.new.log) c.args.self.now.active (noted_in c.args.self.now.stopped)
+    (ap noted_in c.in_ok-check_running.ensures) c.requires.is c.in-Some.active its_is c.args.who c.in_ok-check_owner.ensures c.args.value.now
+    c.bytes_left.result c.bytes_left.ensures c.if-value-bytes_left.false _ c.in-Err.ensures.changes c.take.new.self (Some c.note_add.result.state) (λ stopped. ap kv_ending c.in-Err.ensures.fault)
+
+pub returns-in-Ok-clause-long_writer : goal.returns-in-Ok-clause-long_writer
+returns-in-Ok-clause-long_writer g c some =
+    add_holds (view_of g.F.Flash.state c.feed_begun.new.log) c.args.value.now some c.in-Ok.active c.in-Ok.ensures.begun _ (ap (λ (s : OpenSet). s.bytes) c.in-Ok.ensures.fed)

@@ -1,4 +1,4 @@
-use Rattle.std.proofs.Common.{rules, ◌≡◌, refl, sym, ◌∙◌, ap, subst, List, ℕ}
+use Rattle.std.proofs.Common.{rules, ◌≡◌, refl, sym, ◌∙◌, ap, subst, List, ℕ, Some}
 use Rattle.kv_model.specs.declared.call.Reply.{Reply}
 use Rattle.kv_model.specs.declared.call.Reply.TheVariants.{Refused}
 use Rattle.kv_model.specs.declared.error.KvError.TheVariants.{WriteFault}
@@ -10,7 +10,7 @@ use Rattle.tdb_read.specs.Views.{view_of}
 use Rattle.plain_store.specs.Setting.{IsAllowed}
 use Rattle.plain_store.specs.Stores.{Calls, in_doubt, noted_in}
 use Rattle.plain_store.proofs.SetLemmas.{early_refused, handed, look_refused}
-use Rattle.plain_store.proofs.StartLemmas.{not_fault, over_free, start_done, start_doubted, start_refused, start_stop}
+use Rattle.plain_store.proofs.StartLemmas.{not_fault, over_free, start_done, start_doubted, start_refused, start_stop, start_cuts}
 use Rattle.plain_store.proofs.StoreLemmas.{view_at}
 use Rattle.plain_store.proofs.plain.PlainStore.set_start.Goals as goal
 
@@ -84,3 +84,13 @@ returns-else-ne-clause-answers g c =
     c.note_start.result.state
     (c.note_start.ensures ∙ ap (λ (s : StoreState). in_doubt s c.args.who (Start c.in_ok-key.key c.args.size c.args.flags.bits)) c.note_state-before.ensures)
     c.args.self.now.active c.in-Err.error fault
+
+pub returns-else-ne-clause-moments : goal.returns-else-ne-clause-moments
+returns-else-ne-clause-moments g c runs =
+    let v = view_of g.F.Flash.state c.args.self.now.log in
+    let w = view_of g.F.Flash.state c.look_up.new.log in
+    let x = view_of g.F.Flash.state c.begin_set.new.log in
+    let fault : c.in-Err.error ≡ WriteFault = search rules in
+    start_cuts v w x c.args.self.now.active (noted_in c.args.self.now.stopped) (ap noted_in c.in_ok-check_running.ensures) c.requires.is c.args.who c.in_ok-key.key c.args.key.now c.in_ok-key.ensures.key
+    c.args.size c.args.flags.bits c.in_ok-key.ensures.allowed c.in_ok-place.ensures.reads c.in_ok-place.place c.in_ok-place.ensures.can (kv_ending c.in-Err.error) c.in-Err.ensures.changes
+    c.args.self.now.active (Some c.note_start.result.state) (λ stopped. ap kv_ending fault)

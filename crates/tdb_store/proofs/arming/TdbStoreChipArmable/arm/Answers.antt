@@ -9,7 +9,7 @@ invariant_of-self c = record {
       (noted_in c.args.self.now.store.stopped) c.args.n c.args.pattern c.arm.result c.arm.ensures.armed c.arm.ensures.same c.args.self.now.kept;
 }
 
-pub returns : goal.returns
-returns c =
+pub returns-clause-arms : goal.returns-clause-arms
+returns-clause-arms c =
     arms_chip (view_of c.args.self.now.store.log.flash) (view_of c.arm.new.self) (log_part c.args.self.now.store.log) c.args.self.now.store.active
     (noted_in c.args.self.now.store.stopped) c.args.n c.args.pattern c.arm.result c.arm.ensures.armed c.arm.ensures.same
