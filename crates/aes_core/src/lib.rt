@@ -5,8 +5,8 @@
 //! Nothing here allocates or fails, and nothing is said of the time that a call takes.
 #![tactic(auto)]
 
-ghost use Rattle.std.specs.Prelude.{◌≡◌};
-ghost use Rattle.aes_core.specs.Aes.{encrypted};
+ghost use Rattle.std.specs.Prelude.{◌≡◌, ◌≤◌};
+ghost use Rattle.aes_core.specs.Aes.{encrypted, round_key};
 
 mod columns;
 pub mod laws;
@@ -47,6 +47,14 @@ impl Aes128 {
             round_keys[i + 1] = round_keys[i].next_round_key(*constant);
         }
         Aes128 { round_keys }
+    }
+
+    /// The key that is added after n rounds; before the first that is the key itself.
+    pub fn round_key(&self, n: u8) -> [u8; 16]
+        requires { n ≤ 10 }
+        ensures { result ≡ round_key self.now n }
+    {
+        self.round_keys[n as usize].to_block()
     }
 
     /// Replaces a block by its cipher.

@@ -1,3 +1,3 @@
-pub mod XorBytes
 pub mod CtrText
 pub mod Chain
+pub mod CounterBytes

@@ -6,6 +6,7 @@ ghost use Rattle.cipher_core.specs.Ctr.{counter_block, ctr_text, advanced, text_
 
 use crate::blocks::combine;
 use aes_core::Aes128;
+use aes_lanes::ctr_blocks;
 use std::marker::Model;
 
 /// A text enciphered or deciphered in counter mode, piece by piece.
@@ -51,19 +52,6 @@ fn key_stream_block(cipher: &Aes128, start: u128, number: u128) -> [u8; 16]
     block
 }
 
-// Whole blocks of a text, the first of which has this number.
-fn combine_blocks(cipher: &Aes128, start: u128, number: u128, bytes: &mut [u8])
-    requires { length bytes.old % 16 ≡ 0 }
-    ensures { bytes.new ≡ ctr_text cipher.now start (16 * number) bytes.old }
-{
-    let mut next = number;
-    for block in 0..bytes.len() / 16 {
-        let pad = key_stream_block(cipher, start, next);
-        combine(&mut bytes[16 * block..16 * block + 16], &pad);
-        next = next.wrapping_add(1);
-    }
-}
-
 impl CtrStream {
     /// A stream under a key, from the counter block of the text's first bytes on.
     pub fn new(key: &[u8; 16], start: &[u8; 16]) -> CtrStream
@@ -104,7 +92,8 @@ impl CtrStream {
         ensures text { bytes.new ≡ text_from self.old bytes.old }
         ensures state { self.new ≡ advanced self.old (length bytes.old) }
     {
-        combine_blocks(&self.cipher, self.start, self.blocks, bytes);
+        let mut counter = self.start.wrapping_add(self.blocks).to_be_bytes();
+        ctr_blocks(&self.cipher, &mut counter, bytes);
         let count = (bytes.len() / 16) as u128;
         self.blocks = self.blocks.wrapping_add(count);
     }

@@ -1,5 +1,5 @@
 use Rattle.std.proofs.Common.{arith}
-use Rattle.cipher_core.proofs.XorBytes.{xor_bytes-each}
+use Rattle.aes_lanes.proofs.XorBytes.{xor_bytes-each}
 use Rattle.cipher_core.proofs.blocks.combine.Goals as goal
 
 pub returns : goal.returns

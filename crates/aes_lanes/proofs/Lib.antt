@@ -1,0 +1,11 @@
+pub mod Lift
+pub mod Bits
+pub mod Exchange
+pub mod Layers
+pub mod XorSums
+pub mod Bytes
+pub mod Slicing
+pub mod Keys
+pub mod CtrText
+pub mod Blocks
+pub mod XorBytes
