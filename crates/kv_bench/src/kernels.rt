@@ -1,9 +1,12 @@
 // The kernels, each with the checksum of its work.
 ghost use Rattle.std.specs.Prelude.{◌≡◌, IfSome};
+ghost use Rattle.std.specs.Int.{to_be_bytes, w128};
 ghost use Rattle.cipher_core.specs.Cmac.{cmac};
+ghost use Rattle.kv_model.specs.Crc.{crc_of};
 ghost use Rattle.kv_bench.specs.Passes.{name_of, repeated, passed, first_state, checksum_of};
 
 use cipher_core::{CmacStream, CtrStream};
+use record_core::{CRC_START, crc};
 
 // The key and the first counter block of the examples in SP 800-38A.
 const KEY: [u8; 16] = [
@@ -21,6 +24,8 @@ pub enum Kernel {
     Ctr,
     /// CMAC.
     Cmac,
+    /// The CRC of records.
+    Crc,
 }
 
 impl Kernel {
@@ -34,17 +39,20 @@ impl Kernel {
         match word {
             "ctr" => Some(Kernel::Ctr),
             "cmac" => Some(Kernel::Cmac),
+            "crc" => Some(Kernel::Crc),
             _ => None,
         }
     }
 
-    /// Goes over the buffer so many times, and gives the CMAC of what was computed.
+    /// Goes over the buffer so many times, and gives the CMAC of what was computed, or of the CRC
+    /// the number itself, its high bytes first.
     pub fn checksum(self, buffer: &mut [u8], rounds: u32) -> [u8; 16]
         ensures { result ≡ checksum_of self buffer.old rounds }
     {
         match self {
             Kernel::Ctr => ctr_checksum(buffer, rounds),
             Kernel::Cmac => cmac_checksum(buffer, rounds),
+            Kernel::Crc => crc_checksum(buffer, rounds),
         }
     }
 }
@@ -69,4 +77,15 @@ fn cmac_checksum(buffer: &[u8], rounds: u32) -> [u8; 16]
         stream.update(buffer);
     }
     stream.finish()
+}
+
+// The CRC of the buffer, so many times one after another.
+fn crc_checksum(buffer: &[u8], rounds: u32) -> [u8; 16]
+    ensures { result ≡ to_be_bytes w128 (crc_of (repeated buffer.now rounds)) }
+{
+    let mut sum = CRC_START;
+    for _round in 0..rounds {
+        sum = crc(sum, buffer);
+    }
+    u128::from(sum).to_be_bytes()
 }

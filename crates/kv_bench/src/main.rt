@@ -1,8 +1,8 @@
-//! Runs one kernel of the ciphers over a buffer and prints a checksum, to be timed from outside.
+//! Runs one kernel of a store over a buffer and prints a checksum, to be timed from outside.
 //!
-//! `kv_bench KERNEL SIZE ROUNDS`: the kernel is `ctr` or `cmac`, the size is the buffer's in bytes,
-//! and the rounds are how often the kernel goes over it. The checksum is a CMAC as 32 hexadecimal
-//! digits.
+//! `kv_bench KERNEL SIZE ROUNDS`: the kernel is `ctr`, `cmac` or `crc`, the size is the buffer's in
+//! bytes, and the rounds are how often the kernel goes over it. The checksum is a CMAC, or the CRC,
+//! as 32 hexadecimal digits.
 #![tactic(auto)]
 
 mod kernels;
@@ -24,7 +24,7 @@ fn main(rt: HostRuntime) -> Result<()> {
         bail!("usage: kv_bench KERNEL SIZE ROUNDS");
     };
     let Some(kernel) = Kernel::from_word(kernel.as_str()) else {
-        bail!("the kernel is ctr or cmac");
+        bail!("the kernel is ctr, cmac or crc");
     };
     let size = size.as_str().parse::<usize>().context("reading the size")?;
     let rounds = rounds
