@@ -8,7 +8,7 @@ use Rattle.kv_model.specs.Constants.{Constants}
 use Rattle.kv_model.specs.StoreState.{Maps, StoreState}
 use Rattle.kv_model.specs.Kv.{KvState}
 use Rattle.secure_store.specs.Doubts.{IsCutIn, IsStopped, WhereStopped}
-use Rattle.secure_store.specs.Pair.{pair_constants}
+use Rattle.sealed_pair.specs.Pair.{pair_constants}
 
 -- a store that tells what another tells, and whose images mount to no more
 record IsAlike (s s' : KvState) : Type 0 where

@@ -16,16 +16,18 @@ use Rattle.kv_model.specs.Rules.{Outcome, Rules, refused_or, refuses, step}
 use Rattle.kv_model.specs.declared.error.KvError.TheVariants.{Stopped}
 use Rattle.kv_model.specs.Kv.{Answers, Kind, KvState, LeadsTo, TellsOnly, answered, kind_of, may_end, Ruled, FailedRead, FailedWrite, Mismatched, Wanted}
 use Rattle.kv_model.specs.Checks.{Check, first_refusal, may_fail_reading}
-use Rattle.secure_store.specs.Pair.{pair, pair_constants}
-use Rattle.secure_store.specs.SecureStep.{secure_rules}
+use Rattle.sealed_pair.specs.Pair.{pair, pair_constants}
+use Rattle.sealed_pair.specs.SecureStep.{secure_rules}
 use Rattle.store_note.specs.declared.noted.Noted.{Noted}
-use Rattle.secure_store.specs.Doubts.{joining_of, noted_in}
-use Rattle.secure_store.specs.Shares.{Holds, Share, NoShare, HasSet, LacksKey}
-use Rattle.secure_store.specs.Store.{IsPlainStore, IsPlainWhile, Own, joined_by}
-use Rattle.secure_store.proofs.PairLemmas.{carries_above, cause_all, first_of, keeps_both, read_none, same_told, second_of, told_both, unless_both}
-use Rattle.secure_store.proofs.ReadingLemmas.{some_of}
+use Rattle.secure_store.specs.declared.stop.Stop.{Stop}
+use Rattle.secure_store.specs.declared.stop.Stop.TheVariants.{InCall, InRecover}
+use Rattle.secure_store.specs.Doubts.{told_by, noted_in}
+use Rattle.sealed_pair.specs.Shares.{Holds, Share, NoShare, HasSet, LacksKey}
+use Rattle.sealed_pair.specs.Store.{IsPlainStore, IsPlainWhile, Own, joined_by}
+use Rattle.sealed_pair.proofs.PairLemmas.{carries_above, cause_all, first_of, keeps_both, read_none, same_told, second_of, told_both, unless_both}
+use Rattle.sealed_pair.proofs.ReadingLemmas.{some_of}
 use Rattle.secure_store.proofs.SettleLemmas.{running_answers, runs_plain}
-use Rattle.secure_store.proofs.StoreReadLemmas.{none_of}
+use Rattle.sealed_pair.proofs.StoreReadLemmas.{none_of}
 
 -- the calls on iterators, which are the same to a plain store and to a secure one
 pub data Iterating : Type 0 where
@@ -206,9 +208,9 @@ module _ (root : List ℕ) (own : Own) (rules_by : Constants → Rules) (u u' r 
   }
 
 -- a secure store that runs
-module _ (stopped : Option Noted) (running : is_none stopped ≡ true) (root : List ℕ) (own : Own) (share : Share) (rules_by : Constants → Rules) (u u' r : KvState)
+module _ (stopped : Option Stop) (running : is_none stopped ≡ true) (root : List ℕ) (own : Own) (share : Share) (rules_by : Constants → Rules) (u u' r : KvState)
     (plain : IsPlainWhile (is_none stopped) share rules_by u) (who : ℕ) (call : Iterating) (reply : Reply) (answers : Answers rules_by u u' (answered who (operation_by call) reply)) where
-  pub iterates : Answers secure_rules (pair root (joining_of own (noted_in stopped)) u r) (pair root (joining_of own (noted_in stopped)) u' r) (answered who (operation_by call) reply)
+  pub iterates : Answers secure_rules (told_by root own stopped u r) (told_by root own stopped u' r) (answered who (operation_by call) reply)
   iterates =
       running_answers stopped running root own own u r u' r (answered who (operation_by call) reply)
       (iterating_answers root own rules_by u u' r (runs_plain (is_none stopped) plain running) who call reply answers)

@@ -14,27 +14,42 @@ use Rattle.kv_model.specs.StoreState.{Maps, StoreState, fresh_state}
 use Rattle.kv_model.specs.Operations.{Operation}
 use Rattle.kv_model.specs.Checks.{first_refusal}
 use Rattle.kv_model.specs.Rules.{Outcome, Rules, before_doubt, cuts, failed_write, number_given_back, number_taken, refused_or, refuses, step}
-use Rattle.kv_model.specs.Kv.{Answered, Answers, Kind, KvState, LeadsTo, UnlessFailedWrite, answered, kind_of, Ruled, FailedRead, FailedWrite, Mismatched, Wanted}
+use Rattle.kv_model.specs.Kv.{Answered, Answers, Keeps, Kind, KvState, LeadsTo, UnlessFailedWrite, answered, kind_of, Ruled, FailedRead, FailedWrite, Mismatched, Wanted}
 use Rattle.store_note.specs.declared.noted.Noted.{Noted}
-use Rattle.secure_store.specs.Doubts.{IsCutIn, IsStopped, WhereStopped, doubted, joining_of, noted_in}
-use Rattle.secure_store.specs.Pair.{Joining, both, pair, pair_constants}
-use Rattle.secure_store.specs.Running.{HasEnded, HasRun, HasStopped, IsOpen, Parts, StaysOpen, TellsOnlyBoth, one_of, parts, rules_of}
-use Rattle.secure_store.specs.SecureStep.{secure_rules}
-use Rattle.secure_store.specs.Active.{own_of, share_above, share_below}
-use Rattle.secure_store.specs.Begun.{parts_in}
-use Rattle.secure_store.specs.declared.active.Active.{Active}
-use Rattle.secure_store.specs.Shares.{Holds, Share}
-use Rattle.secure_store.specs.Store.{IsPlainStore, IsPlainWhile, Own, joined_by}
-use Rattle.secure_store.proofs.PairLemmas.{first_of, keeps_both, read_none, same_told, second_of, told_both}
-use Rattle.secure_store.proofs.ReadingLemmas.{some_of}
-use Rattle.secure_store.proofs.RunningLemmas.{cuts_are, three_cuts}
-use Rattle.secure_store.proofs.StoreReadLemmas.{none_of}
+use Rattle.secure_store.specs.declared.stop.Stop.{Stop}
+use Rattle.secure_store.specs.declared.stop.Stop.TheVariants.{InCall, InRecover}
+use Rattle.secure_store.specs.Doubts.{IsCutIn, IsStopped, WhereStopped, doubted, noted_in, told_by, untold}
+use Rattle.sealed_pair.specs.Pair.{Joining, both, pair, pair_constants}
+use Rattle.sealed_pair.specs.Running.{HasEnded, HasRun, HasStopped, IsOpen, Parts, StaysOpen, TellsOnlyBoth, one_of, parts, rules_of}
+use Rattle.sealed_pair.specs.SecureStep.{secure_rules}
+use Rattle.sealed_pair.specs.Active.{own_of, share_above, share_below}
+use Rattle.sealed_pair.specs.Begun.{parts_in}
+use Rattle.sealed_pair.specs.declared.active.Active.{Active}
+use Rattle.sealed_pair.specs.Shares.{Holds, Share}
+use Rattle.sealed_pair.specs.Store.{IsPlainStore, IsPlainWhile, Own, joined_by}
+use Rattle.sealed_pair.proofs.PairLemmas.{first_of, keeps_both, read_none, same_told, second_of, told_both}
+use Rattle.sealed_pair.proofs.ReadingLemmas.{some_of}
+use Rattle.sealed_pair.proofs.RunningLemmas.{cuts_are, three_cuts}
+use Rattle.sealed_pair.proofs.StoreReadLemmas.{none_of}
 
 -- ---- a store that was stopped
 
 stopped_step : (rules : Rules) (state : StoreState) (who : ℕ) (operation : Operation) → is_some state.doubt ≡ true → step rules state who operation ≡ refuses state error.Stopped
 stopped_step rules state who operation in_doubt =
     ap (λ (b : Bool). if b then refuses state error.Stopped else refused_or rules state who operation (first_refusal (rules.checks state who operation))) in_doubt
+
+-- what is kept is kept where no state is told
+pub keeps_untold : {s s' : KvState} → Keeps s s' → Keeps (untold s) (untold s')
+keeps_untold keeps = record {
+  constants = keeps.constants;
+  labels = keeps.labels;
+  tells_state = refl;
+  tells_log = keeps.tells_log;
+  tells_moments = keeps.tells_moments;
+  read_faults = keeps.read_faults;
+  write_faults = keeps.write_faults;
+  sound = keeps.sound;
+}
 
 module _ (root : List ℕ) (u r : KvState) where
   noted_answers : (noted : StoreState) → is_some noted.doubt ≡ true → (who : ℕ) (operation : Operation)
@@ -59,29 +74,45 @@ module _ (root : List ℕ) (u r : KvState) where
     may_end = refl;
   }
 
-  pub stopped_answers : (own : Own) (stopped : Option Noted) → is_some stopped ≡ true → ∥ WhereStopped root (noted_in stopped) u r ∥₁ → (who : ℕ) (operation : Operation)
-      → Answers secure_rules (pair root (joining_of own (noted_in stopped)) u r) (pair root (joining_of own (noted_in stopped)) u r)
+  untold_answers : (own : Own) (who : ℕ) (operation : Operation)
+      → Answers secure_rules (untold (pair root (joined_by own) u r)) (untold (pair root (joined_by own) u r)) (answered who operation (Refused error.Stopped))
+  untold_answers own who operation = record {
+    does = record {
+      keeps = keeps_untold (keeps_both root u u r r (joined_by own) (joined_by own) (read_none u).keeps (read_none r).keeps);
+      cause = tt;
+      steady = λ steady. steady;
+      leads = λ before is. absurd (false≢true (ap is_some is));
+      log = λ before is. absurd (false≢true (ap is_some is));
+      cuts = λ tells before is. absurd (false≢true (ap is_some is));
+    };
+    may_end = refl;
+  }
+
+  pub stopped_answers : (own : Own) (stopped : Option Stop) → is_some stopped ≡ true → ∥ WhereStopped root (noted_in stopped) u r ∥₁ → (who : ℕ) (operation : Operation)
+      → Answers secure_rules (told_by root own stopped u r) (told_by root own stopped u r)
       (answered who operation (Refused error.Stopped))
   stopped_answers own None is fact who operation = absurd (false≢true is)
-  stopped_answers own (Some noted) is fact who operation =
+  stopped_answers own (Some InRecover) is fact who operation = untold_answers own who operation
+  stopped_answers own (Some (InCall noted)) is fact who operation =
       noted_answers noted.state (∥∥₁_elim fact (Bool-set (is_some noted.state.doubt) true) (λ (s : IsStopped root u r noted.state). s.in_doubt)) who operation
 
 -- ---- a store that runs
 
-pub not_stopped : (stopped : Option Noted) → is_none stopped ≡ true → (root : List ℕ) (u r : KvState) → ∥ WhereStopped root (noted_in stopped) u r ∥₁
+pub not_stopped : (stopped : Option Stop) → is_none stopped ≡ true → (root : List ℕ) (u r : KvState) → ∥ WhereStopped root (noted_in stopped) u r ∥₁
 not_stopped None is root u r = ∣ tt ∣₁
 not_stopped (Some noted) is root u r = absurd (false≢true is)
 
-pub running_answers : (stopped : Option Noted) → is_none stopped ≡ true → (root : List ℕ) (own later : Own) (u r u' r' : KvState) (call : Answered)
+pub running_answers : (stopped : Option Stop) → is_none stopped ≡ true → (root : List ℕ) (own later : Own) (u r u' r' : KvState) (call : Answered)
     → Answers secure_rules (pair root (joined_by own) u r) (pair root (joined_by later) u' r') call
-    → Answers secure_rules (pair root (joining_of own (noted_in stopped)) u r) (pair root (joining_of later (noted_in stopped)) u' r') call
+    → Answers secure_rules (told_by root own stopped u r) (told_by root later stopped u' r') call
 running_answers None is root own later u r u' r' call answers = answers
 running_answers (Some noted) is root own later u r u' r' call answers = absurd (false≢true is)
 
 -- what holds of a store that runs
-pub at_running : (stopped : Option Noted) → is_none stopped ≡ true → (own : Own) (P : Joining → Type 0) → P (joined_by own) → P (joining_of own (noted_in stopped))
-at_running None is own P p = p
-at_running (Some noted) is own P p = absurd (false≢true is)
+pub at_running : (stopped : Option Stop) → is_none stopped ≡ true → (root : List ℕ) (own : Own) (P : (KvState → KvState → KvState) → Type 0)
+    → P (pair root (joined_by own)) → P (told_by root own stopped)
+at_running None is root own P p = p
+at_running (Some stop) is root own P p = absurd (false≢true is)
 
 pub some_or_none : (X : Type 0) (o : Option X) → is_some o ≡ false → is_none o ≡ true
 some_or_none X None is = refl
@@ -297,7 +328,7 @@ pub run_begun : (active : Option Active) → is_none active ≡ true → (root :
 run_begun None free root number above below u r new call run = run
 run_begun (Some active) free root number above below u r new call run = absurd (false≢true free)
 
-module _ (stopped : Option Noted) (running : is_none stopped ≡ true) (root : List ℕ) (number : ℕ) (active : Option Active) (above below : Constants → Rules) (u r u' r' : KvState)
+module _ (stopped : Option Stop) (running : is_none stopped ≡ true) (root : List ℕ) (number : ℕ) (active : Option Active) (above below : Constants → Rules) (u r u' r' : KvState)
     (plain : IsPlainWhile (is_none stopped) (share_above active) above u) (plain_too : IsPlainWhile (is_none stopped) (share_below active) below r) (who : ℕ) (operation : Operation) where
   abbrev parts_old : Parts
   parts_old = parts_in root number active above u below r
@@ -306,7 +337,7 @@ module _ (stopped : Option Noted) (running : is_none stopped ≡ true) (root : L
   parts_new later next = parts_in root later next above u' below r'
 
   abbrev before : KvState
-  before = pair root (joining_of (own_of number active) (noted_in stopped)) u r
+  before = told_by root (own_of number active) stopped u r
 
   runs_above : (state : StoreState) → u.known.state ≡ Some state → IsOpen (share_above active) above u state
   runs_above state told = open_told (is_none stopped) plain running state told
@@ -316,33 +347,33 @@ module _ (stopped : Option Noted) (running : is_none stopped ≡ true) (root : L
 
   pub ran_answers : (later : ℕ) (next : Option Active) (reply : Reply) → HasRun parts_old (parts_new later next) (answered who operation reply)
       → (reply ≡ Refused error.WriteFault → ⊥)
-      → Answers secure_rules before (pair root (joining_of (own_of later next) (noted_in stopped)) u' r') (answered who operation reply)
+      → Answers secure_rules before (told_by root (own_of later next) stopped u' r') (answered who operation reply)
   ran_answers later next reply run no_fault =
       running_answers stopped running root (own_of number active) (own_of later next) u r u' r' (answered who operation reply)
       (ended_answers parts_old (parts_new later next) (answered who operation reply) run runs_above runs_below no_fault)
 
   noted_at : (noted : StoreState) → noted ≡ doubted before who operation → noted ≡ doubted (pair root (joined_by (own_of number active)) u r) who operation
   noted_at noted is = is ∙ same stopped running where
-    same : (s : Option Noted) → is_none s ≡ true
-        → doubted (pair root (joining_of (own_of number active) (noted_in s)) u r) who operation ≡ doubted (pair root (joined_by (own_of number active)) u r) who operation
+    same : (s : Option Stop) → is_none s ≡ true
+        → doubted (told_by root (own_of number active) s u r) who operation ≡ doubted (pair root (joined_by (own_of number active)) u r) who operation
     same None none = refl
     same (Some n) none = absurd (false≢true none)
 
   pub stopped_by : (e : KvError) → e ≡ error.WriteFault → (next : Option Active) → HasRun parts_old (parts_new number next) (answered who operation (Refused e)) → (later : Own) (note : Noted)
-      → note.state ≡ doubted before who operation → Answers secure_rules before (pair root (joining_of later (noted_in (Some note))) u' r') (answered who operation (Refused e))
+      → note.state ≡ doubted before who operation → Answers secure_rules before (told_by root later (Some (InCall note)) u' r') (answered who operation (Refused e))
   stopped_by e is next run later note noted_is =
       let at = subst (λ (f : KvError). HasRun parts_old (parts_new number next) (answered who operation (Refused f))) is run in
       subst (λ (f : KvError). Answers secure_rules before (pair root (λ a b. note.state) u' r') (answered who operation (Refused f))) (sym is)
       (running_first stopped running
       (fault_answers parts_old (parts_new number next) who operation at runs_above runs_below note.state (noted_at note.state noted_is))) where
-        running_first : (s : Option Noted) → is_none s ≡ true
+        running_first : (s : Option Stop) → is_none s ≡ true
             → Answers secure_rules (pair root (joined_by (own_of number active)) u r) (pair root (λ a b. note.state) u' r') (answered who operation (Refused error.WriteFault))
-            → Answers secure_rules (pair root (joining_of (own_of number active) (noted_in s)) u r) (pair root (λ a b. note.state) u' r') (answered who operation (Refused error.WriteFault))
+            → Answers secure_rules (told_by root (own_of number active) s u r) (pair root (λ a b. note.state) u' r') (answered who operation (Refused error.WriteFault))
         running_first None none answers = answers
         running_first (Some n) none answers = absurd (false≢true none)
 
   pub stops_by : (e : KvError) → e ≡ error.WriteFault → (next : Option Active) → HasRun parts_old (parts_new number next) (answered who operation (Refused e)) → (note : Noted)
-      → note.state ≡ doubted before who operation → ∥ WhereStopped root (noted_in (Some note)) u' r' ∥₁
+      → note.state ≡ doubted before who operation → ∥ WhereStopped root (noted_in (Some (InCall note))) u' r' ∥₁
   stops_by e is next run note noted_is =
       fault_stops parts_old (parts_new number next) who operation
       (subst (λ (f : KvError). HasRun parts_old (parts_new number next) (answered who operation (Refused f))) is run)
@@ -352,7 +383,7 @@ module _ (stopped : Option Noted) (running : is_none stopped ≡ true) (root : L
 
   module _ (later : ℕ) (next : Option Active) where
     abbrev then_next : KvState
-    then_next = pair root (joining_of (own_of later next) (noted_in stopped)) u' r'
+    then_next = told_by root (own_of later next) stopped u' r'
 
     pub done_answers : HasRun parts_old (parts_new later next) (answered who operation Done) → Answers secure_rules before then_next (answered who operation Done)
     done_answers run = ran_answers later next Done run unlike_done

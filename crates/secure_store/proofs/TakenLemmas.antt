@@ -13,16 +13,18 @@ use Rattle.kv_model.specs.Operations.{Operation, Set}
 use Rattle.kv_model.specs.Rules.{Outcome, Rules, refuses, step}
 use Rattle.kv_model.specs.Kv.{Answers, IsCause, Kind, KvState, LeadsTo, answered, kind_of, may_end, Ruled}
 use Rattle.store_note.specs.declared.noted.Noted.{Noted}
-use Rattle.secure_store.specs.declared.active.Active.{Active}
-use Rattle.secure_store.specs.declared.active.Begun.{Begun}
-use Rattle.secure_store.specs.declared.active.Begun.TheVariants as begun
-use Rattle.secure_store.specs.declared.limits.TheConstants.{MAX_SECURE_VALUE}
-use Rattle.secure_store.specs.Active.{opened_by, own_of, taken}
-use Rattle.secure_store.specs.Doubts.{joining_of, noted_in}
-use Rattle.secure_store.specs.Pair.{pair, pair_constants}
-use Rattle.secure_store.specs.SecureStep.{secure_rules}
-use Rattle.secure_store.specs.Store.{Own, joined_by}
-use Rattle.secure_store.proofs.PairLemmas.{read_answers, read_none}
+use Rattle.secure_store.specs.declared.stop.Stop.{Stop}
+use Rattle.secure_store.specs.declared.stop.Stop.TheVariants.{InCall, InRecover}
+use Rattle.sealed_pair.specs.declared.active.Active.{Active}
+use Rattle.sealed_pair.specs.declared.active.Begun.{Begun}
+use Rattle.sealed_pair.specs.declared.active.Begun.TheVariants as begun
+use Rattle.sealed_pair.specs.declared.limits.TheConstants.{MAX_SECURE_VALUE}
+use Rattle.sealed_pair.specs.Active.{opened_by, own_of, taken}
+use Rattle.secure_store.specs.Doubts.{told_by, noted_in}
+use Rattle.sealed_pair.specs.Pair.{pair, pair_constants}
+use Rattle.sealed_pair.specs.SecureStep.{secure_rules}
+use Rattle.sealed_pair.specs.Store.{Own, joined_by}
+use Rattle.sealed_pair.proofs.PairLemmas.{read_answers, read_none}
 use Rattle.secure_store.proofs.SettleLemmas.{running_answers}
 
 module _ (root : List ℕ) (own : Own) (u r : KvState) where
@@ -89,9 +91,9 @@ module _ (key value : List ℕ) (flags : ℕ) (good : is_key key ≡ true) (secu
       (sym (taken_is (if active.owner == who then SetOpen else Busy active.owner) e is))
       (taken_by root n u r who active.owner active.begun (active.owner == who) refl)
 
-  module _ (stopped : Option Noted) (running : is_none stopped ≡ true) (root : List ℕ) (number : ℕ) (active : Option Active) (u r : KvState) (who : ℕ) where
+  module _ (stopped : Option Stop) (running : is_none stopped ≡ true) (root : List ℕ) (number : ℕ) (active : Option Active) (u r : KvState) (who : ℕ) where
     abbrev here : KvState
-    here = pair root (joining_of (own_of number active) (noted_in stopped)) u r
+    here = told_by root (own_of number active) stopped u r
 
     pub taken_answers : (e : KvError) → taken active who ≡ Some e → Answers secure_rules here here (answered who (Set key value flags) (Refused e))
     taken_answers e is =

@@ -7,25 +7,33 @@ use Rattle.kv_model.specs.StoreState.{Doubt, Maps, StoreState, fresh_state}
 use Rattle.kv_model.specs.Operations.{Operation}
 use Rattle.kv_model.specs.Rules.{cuts, failed_write}
 use Rattle.kv_model.specs.Kv.{KvState}
-use Rattle.store_note.specs.declared.noted.Noted.{Noted}
-use Rattle.secure_store.specs.Pair.{Joining, PairStands, pair_constants}
-use Rattle.secure_store.specs.SecureStep.{secure_rules}
-use Rattle.secure_store.specs.Store.{Own, joined, joined_by}
+use Rattle.secure_store.specs.declared.stop.Stop.{Stop}
+use Rattle.secure_store.specs.declared.stop.Stop.TheVariants.{InCall, InRecover}
+use Rattle.sealed_pair.specs.Pair.{PairStands, pair, pair_constants}
+use Rattle.sealed_pair.specs.SecureStep.{secure_rules}
+use Rattle.sealed_pair.specs.Store.{Own, joined, joined_by}
 
 -- the state of a store in which a write of this call fails
 abbrev pub doubted : KvState → ℕ → Operation → StoreState
 doubted s who operation =
     failed_write (secure_rules s.known.constants) (unwrap_or s.known.state (fresh_state empty empty 0)) who operation
 
--- what is noted of a store that was stopped
-abbrev pub noted_in : Option Noted → Option StoreState
+-- what is noted of a store that was stopped in a call
+abbrev pub noted_in : Option Stop → Option StoreState
 noted_in None = None
-noted_in (Some noted) = Some noted.state
+noted_in (Some (InCall noted)) = Some noted.state
+noted_in (Some InRecover) = None
 
--- the state of the two stores as one: of a store that was stopped what was noted
-abbrev pub joining_of : Own → Option StoreState → Joining
-joining_of own None = joined_by own
-joining_of own (Some noted) = λ primary rollback. noted
+-- the same store, which tells no state
+abbrev pub untold : KvState → KvState
+untold s = record s { known = record s.known { state = None } }
+
+-- The two stores as one. One that was stopped in a call tells what was noted, and one that was stopped in a recover
+-- tells no state.
+abbrev pub told_by : List ℕ → Own → Option Stop → KvState → KvState → KvState
+told_by root own None = pair root (joined_by own)
+told_by root own (Some (InCall noted)) = pair root (λ primary rollback. noted.state)
+told_by root own (Some InRecover) = λ primary rollback. untold (pair root (joined_by own) primary rollback)
 
 -- the maps of both stores are those that a cut in the call in doubt may leave
 abbrev pub IsCutIn : Constants → StoreState → Maps → Type 0

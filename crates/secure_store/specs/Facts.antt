@@ -8,8 +8,8 @@ use Rattle.kv_model.specs.StoreState.{Iterators, OpenSet, Position, StoreState}
 use Rattle.kv_model.specs.Constants.{Constants}
 use Rattle.kv_model.specs.Rules.{Rules}
 use Rattle.kv_model.specs.Kv.{KvState}
-use Rattle.secure_store.specs.Shares.{Holds, Share, NoShare, HasSet, LacksKey}
-use Rattle.secure_store.specs.Store.{IsPlainWhile}
+use Rattle.sealed_pair.specs.Shares.{Holds, Share, NoShare, HasSet, LacksKey}
+use Rattle.sealed_pair.specs.Store.{IsPlainWhile}
 
 stored_code : Coded Stored
 stored_code = code_by (ℕ × List ℕ) (coded× coded_ℕ (coded_list coded_ℕ)) (λ (s : Stored). (s.flags, s.bytes)) (λ t. record { flags = t.0; bytes = t.1 }) (λ _. refl)

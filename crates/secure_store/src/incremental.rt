@@ -4,16 +4,14 @@ ghost use Rattle.kv_model.specs.Given.{done_or};
 ghost use Rattle.kv_model.specs.Kv.{Answers, answered};
 ghost use Rattle.kv_model.specs.Operations.{Abort, Add, Finish, RemoveStart};
 ghost use Rattle.secure_store.specs.SecureState.{state_in};
-ghost use Rattle.secure_store.specs.SecureStep.{secure_rules};
+ghost use Rattle.sealed_pair.specs.SecureStep.{secure_rules};
 
-use crate::active::{check_free, owns, take_own};
 use crate::asking::Asking;
-use crate::beginning::begin_both;
 use crate::doubt::in_doubt;
-use crate::finishing::{abort_both, finish_remove};
-use crate::reads::key_of;
+use crate::stop::Stop;
 use crate::store::SecureStore;
 use kv_model::{Key, Kv, KvError};
+use sealed_pair::{abort_both, begin_both, check_free, finish_remove, key_of, owns, take_own};
 
 impl<U: Kv, R: Kv> SecureStore<U, R> {
     /// Begins a remove that `set_finish` completes. It makes every check and read of `remove`, and
@@ -52,7 +50,7 @@ impl<U: Kv, R: Kv> SecureStore<U, R> {
             }
             Err(refusal) => {
                 if refusal == KvError::WriteFault {
-                    self.stopped = Some(note);
+                    self.stopped = Some(Stop::InCall(note));
                 }
                 Err(refusal)
             }
@@ -94,7 +92,7 @@ impl<U: Kv, R: Kv> SecureStore<U, R> {
             Ok(()) => Ok(()),
             Err(refusal) => {
                 if refusal == KvError::WriteFault {
-                    self.stopped = Some(note);
+                    self.stopped = Some(Stop::InCall(note));
                 }
                 Err(refusal)
             }

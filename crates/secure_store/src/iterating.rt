@@ -4,7 +4,7 @@ ghost use Rattle.kv_model.specs.Given.{AreZerosFrom, done_or, found_end, found_o
 ghost use Rattle.kv_model.specs.Kv.{Answers, answered};
 ghost use Rattle.kv_model.specs.Operations.{CloseIterator, Next, OpenIterator};
 ghost use Rattle.secure_store.specs.SecureState.{state_in};
-ghost use Rattle.secure_store.specs.SecureStep.{secure_rules};
+ghost use Rattle.sealed_pair.specs.SecureStep.{secure_rules};
 
 use crate::store::SecureStore;
 use kv_model::{Kv, KvError};

@@ -4,23 +4,12 @@ ghost use Rattle.kv_model.specs.Given.{AreZerosFrom, IsGot, facts_or, got_or, re
 ghost use Rattle.kv_model.specs.Kv.{Answers, answered};
 ghost use Rattle.kv_model.specs.Operations.{Info as InfoOf, Part};
 ghost use Rattle.secure_store.specs.SecureState.{state_in};
-ghost use Rattle.secure_store.specs.SecureStep.{secure_rules};
-ghost use Rattle.secure_store.specs.Store.{IsFreshStore, KeyOr, OwnsWhole, WithinOr};
+ghost use Rattle.sealed_pair.specs.SecureStep.{secure_rules};
+ghost use Rattle.sealed_pair.specs.Store.{IsFreshStore, OwnsWhole, WithinOr};
 
-use crate::opening::Found;
 use crate::store::SecureStore;
-use crate::viewing::view_key;
 use kv_model::{Got, Info, Key, Kv, KvError};
-
-/// The key of these bytes.
-pub(crate) fn key_of(bytes: &[u8]) -> Result<Key, KvError>
-    ensures { KeyOr bytes.now result }
-{
-    if !kv_model::is_key(bytes) {
-        return Err(KvError::InvalidKey);
-    }
-    Ok(Key::new(bytes)?)
-}
+use sealed_pair::{Found, key_of, view_key};
 
 // What a read gives of a record that was found.
 fn given_from(offset: u32, found: &Found) -> Result<Got, KvError>

@@ -4,18 +4,17 @@ ghost use Rattle.kv_model.specs.Given.{done_or};
 ghost use Rattle.kv_model.specs.Kv.{Answers, answered};
 ghost use Rattle.kv_model.specs.Operations.{Set};
 ghost use Rattle.kv_model.specs.Rules.{number_taken};
-ghost use Rattle.secure_store.specs.Sealing.{is_numbered};
+ghost use Rattle.sealed_pair.specs.Sealing.{is_numbered};
 ghost use Rattle.secure_store.specs.SecureState.{state_in};
-ghost use Rattle.secure_store.specs.SecureStep.{last_number, secure_rules};
-ghost use Rattle.secure_store.specs.Setting.{NumberLeft};
+ghost use Rattle.sealed_pair.specs.SecureStep.{last_number, secure_rules};
+ghost use Rattle.sealed_pair.specs.Setting.{NumberLeft};
 
-use crate::active::check_free;
 use crate::asking::Asking;
 use crate::doubt::in_doubt;
-use crate::limits::MAX_SECURE_VALUE;
-use crate::setting::{is_numbered, is_secure, set_both};
+use crate::stop::Stop;
 use crate::store::SecureStore;
 use kv_model::{Flags, Kv, KvError};
+use sealed_pair::{MAX_SECURE_VALUE, check_free, is_numbered, is_secure, set_both};
 
 // The next number, once a set of these flags took its own.
 fn next_number(flags: Flags, number: u64) -> u64
@@ -85,7 +84,7 @@ impl<U: Kv, R: Kv> SecureStore<U, R> {
             Err(refusal) => {
                 if refusal == KvError::WriteFault {
                     self.iv = next_number(flags, number);
-                    self.stopped = Some(note);
+                    self.stopped = Some(Stop::InCall(note));
                 }
                 Err(refusal)
             }

@@ -1,13 +1,13 @@
 // A secure store over two others.
 ghost use Rattle.std.specs.Prelude.{is_none};
-ghost use Rattle.secure_store.specs.Active.{share_above, share_below};
+ghost use Rattle.sealed_pair.specs.Active.{share_above, share_below};
 ghost use Rattle.secure_store.specs.Doubts.{WhereStopped, noted_in};
-ghost use Rattle.secure_store.specs.Store.{IsPlainWhile};
+ghost use Rattle.sealed_pair.specs.Store.{IsPlainWhile};
 ghost use Rattle.secure_store.specs.Facts.{plain_prop};
 
-use crate::active::Active;
+use crate::stop::Stop;
 use kv_model::Kv;
-use store_note::Noted;
+use sealed_pair::Active;
 
 /// A store over two others. Values stand in the primary store as sealed records, authenticated and
 /// where asked enciphered; of keys that are write-once or protected from replay the rollback store
@@ -19,8 +19,7 @@ pub struct SecureStore<U: Kv, R: Kv> {
     /// The number of the next set that takes one.
     pub(crate) iv: u64,
     pub(crate) active: Option<Active>,
-    /// What a store tells in which a write failed; no call of it is made any more.
-    pub(crate) stopped: Option<Noted>,
+    pub(crate) stopped: Option<Stop>,
     ghost above: { IsPlainWhile (is_none stopped) (share_above active) U.rules_by
         (U.state primary) } by { plain_prop },
     ghost below: { IsPlainWhile (is_none stopped) (share_below active) R.rules_by

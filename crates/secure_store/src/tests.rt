@@ -1,7 +1,7 @@
 ghost use Rattle.std.specs.Prelude.{◌<◌, ◌^◌, length};
 ghost use Rattle.kv_model.specs.PlainStep.{plain_rules};
 ghost use Rattle.kv_memory.specs.Memory.{known_of};
-ghost use Rattle.secure_store.specs.Store.{IsFreshStore};
+ghost use Rattle.sealed_pair.specs.Store.{IsFreshStore};
 
 use crate::SecureStore;
 use kv_memory::MemoryStore;

@@ -4,15 +4,14 @@ ghost use Rattle.kv_model.specs.Given.{done_or};
 ghost use Rattle.kv_model.specs.Kv.{Answers, answered};
 ghost use Rattle.kv_model.specs.Operations.{Remove, Reset};
 ghost use Rattle.secure_store.specs.SecureState.{state_in};
-ghost use Rattle.secure_store.specs.SecureStep.{secure_rules};
+ghost use Rattle.sealed_pair.specs.SecureStep.{secure_rules};
 
-use crate::active::check_free;
 use crate::asking::Asking;
 use crate::doubt::in_doubt;
-use crate::removing::remove_both;
+use crate::stop::Stop;
 use crate::store::SecureStore;
-use crate::writing::reset_both;
 use kv_model::{Kv, KvError};
+use sealed_pair::{check_free, remove_both, reset_both};
 
 impl<U: Kv, R: Kv> SecureStore<U, R> {
     /// Takes a key away from each store that has it: prepared in both, then done in the primary
@@ -47,7 +46,7 @@ impl<U: Kv, R: Kv> SecureStore<U, R> {
             Ok(()) => Ok(()),
             Err(refusal) => {
                 if refusal == KvError::WriteFault {
-                    self.stopped = Some(note);
+                    self.stopped = Some(Stop::InCall(note));
                 }
                 Err(refusal)
             }
@@ -80,7 +79,7 @@ impl<U: Kv, R: Kv> SecureStore<U, R> {
             Ok(()) => Ok(()),
             Err(refusal) => {
                 if refusal == KvError::WriteFault {
-                    self.stopped = Some(note);
+                    self.stopped = Some(Stop::InCall(note));
                 }
                 Err(refusal)
             }

@@ -1,6 +1,6 @@
 use Rattle.std.proofs.Common.{refl}
 use Rattle.kv_memory.specs.Memory.{known_of, state_in}
-use Rattle.secure_store.proofs.FreshLemmas.{fresh_at, fresh_kept}
+use Rattle.sealed_pair.proofs.FreshLemmas.{fresh_at, fresh_kept}
 use Rattle.secure_store.proofs.tests.filled.Goals as goal
 
 pub returns-in-Ok : goal.returns-in-Ok

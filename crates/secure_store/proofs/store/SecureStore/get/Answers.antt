@@ -3,8 +3,8 @@ use Rattle.kv_model.specs.declared.call.Reply.TheVariants.{Value}
 use Rattle.kv_model.specs.Kv.{Answers, answered}
 use Rattle.kv_model.specs.Operations.{Part}
 use Rattle.secure_store.specs.SecureState.{state_in}
-use Rattle.secure_store.specs.SecureStep.{secure_rules}
-use Rattle.secure_store.proofs.StoreReadLemmas.{owns_still}
+use Rattle.sealed_pair.specs.SecureStep.{secure_rules}
+use Rattle.sealed_pair.proofs.StoreReadLemmas.{owns_still}
 use Rattle.secure_store.proofs.store.SecureStore.get.Goals as goal
 
 pub returns-in-Ok-clause-answers : goal.returns-in-Ok-clause-answers

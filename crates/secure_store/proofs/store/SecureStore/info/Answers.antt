@@ -3,7 +3,7 @@ use Rattle.kv_model.specs.Given.{facts_or}
 use Rattle.kv_model.specs.Kv.{Answers, answered}
 use Rattle.kv_model.specs.Operations.{Info}
 use Rattle.secure_store.specs.SecureState.{state_in}
-use Rattle.secure_store.specs.SecureStep.{secure_rules}
+use Rattle.sealed_pair.specs.SecureStep.{secure_rules}
 use Rattle.secure_store.proofs.store.SecureStore.info.Goals as goal
 
 pub returns-in-Ok : goal.returns-in-Ok

@@ -1,7 +1,7 @@
 use Rattle.std.proofs.Common.{rules, ◌≡◌, false}
 use Rattle.std.specs.Prelude.{is_some}
 use Rattle.kv_model.specs.Given.{done_or}
-use Rattle.secure_store.specs.Active.{own_of, share_above}
+use Rattle.sealed_pair.specs.Active.{own_of, share_above}
 use Rattle.secure_store.proofs.IteratingLemmas.{Closes, iterates, iterating_while}
 use Rattle.secure_store.proofs.SettleLemmas.{not_stopped, some_or_none}
 use Rattle.secure_store.proofs.store.SecureStore.iter_close.Goals as goal

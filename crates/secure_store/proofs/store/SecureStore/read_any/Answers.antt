@@ -2,15 +2,14 @@ use Rattle.std.proofs.Common.{List, ℕ, IfOk, length, subst}
 use Rattle.kv_model.specs.declared.call.Got.{Got}
 use Rattle.kv_model.specs.declared.call.Reply.TheVariants.{Refused}
 use Rattle.kv_model.specs.Given.{IsGot, got_or}
-use Rattle.kv_model.specs.Kv.{Answers, answered}
+use Rattle.kv_model.specs.Kv.{Answers, KvState, answered}
 use Rattle.kv_model.specs.Operations.{Part}
 use Rattle.secure_store.specs.SecureState.{state_in}
-use Rattle.secure_store.specs.SecureStep.{secure_rules}
-use Rattle.secure_store.specs.Store.{OwnsWhole}
-use Rattle.secure_store.specs.Active.{own_of}
-use Rattle.secure_store.specs.Pair.{Joining, pair}
+use Rattle.sealed_pair.specs.SecureStep.{secure_rules}
+use Rattle.sealed_pair.specs.Store.{OwnsWhole}
+use Rattle.sealed_pair.specs.Active.{own_of}
 use Rattle.secure_store.proofs.SettleLemmas.{at_running}
-use Rattle.secure_store.proofs.StoreReadLemmas.{part_bad}
+use Rattle.sealed_pair.proofs.StoreReadLemmas.{part_bad}
 use Rattle.secure_store.proofs.store.SecureStore.read_any.Goals as goal
 
 pub returns-in-Ok-clause-answers : goal.returns-in-Ok-clause-answers
@@ -29,9 +28,9 @@ returns-in-Ok-clause-own g c =
 
 pub returns-in-Err-clause-answers : goal.returns-in-Err-clause-answers
 returns-in-Err-clause-answers g c who =
-    at_running c.args.self.now.stopped c.requires (own_of c.args.self.now.iv c.args.self.now.active) (λ (j : Joining). Answers secure_rules
-    (pair c.args.self.now.root j (g.U.Kv.state c.args.self.now.primary) (g.R.Kv.state c.args.self.now.rollback))
-    (pair c.args.self.now.root j (g.U.Kv.state c.args.self.now.primary) (g.R.Kv.state c.args.self.now.rollback))
+    at_running c.args.self.now.stopped c.requires c.args.self.now.root (own_of c.args.self.now.iv c.args.self.now.active) (λ (one : KvState → KvState → KvState). Answers secure_rules
+    (one (g.U.Kv.state c.args.self.now.primary) (g.R.Kv.state c.args.self.now.rollback))
+    (one (g.U.Kv.state c.args.self.now.primary) (g.R.Kv.state c.args.self.now.rollback))
     (answered who (Part c.args.key.now c.args.offset (length c.args.buf.now)) (Refused c.in-Err.refusal)))
     (part_bad c.args.self.now.root (own_of c.args.self.now.iv c.args.self.now.active) (g.U.Kv.state c.args.self.now.primary) (g.R.Kv.state c.args.self.now.rollback) who c.args.key.now c.args.offset
     (length c.args.buf.now) c.in-Err.refusal c.in-Err.ensures)

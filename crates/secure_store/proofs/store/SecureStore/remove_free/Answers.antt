@@ -2,7 +2,7 @@ use Rattle.std.proofs.Common.{rules, ◌≡◌, ap}
 use Rattle.std.specs.Prelude.{is_none}
 use Rattle.kv_model.specs.declared.error.KvError.TheVariants.{WriteFault}
 use Rattle.kv_model.specs.Operations.{Remove}
-use Rattle.secure_store.specs.Active.{own_of}
+use Rattle.sealed_pair.specs.Active.{own_of}
 use Rattle.secure_store.proofs.SettleLemmas.{done_above, done_answers, done_below, not_stopped, refusal_above, refusal_answers, refusal_below, run_free, stopped_by, stops_by, while_stopped}
 use Rattle.secure_store.proofs.store.SecureStore.remove_free.Goals as goal
 

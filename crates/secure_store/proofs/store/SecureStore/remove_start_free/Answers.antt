@@ -2,7 +2,7 @@ use Rattle.std.proofs.Common.{rules, ◌≡◌, ◌∙◌, ℕ, List, Some, ap}
 use Rattle.std.specs.Prelude.{is_none}
 use Rattle.kv_model.specs.declared.error.KvError.TheVariants.{WriteFault}
 use Rattle.kv_model.specs.Operations.{RemoveStart}
-use Rattle.secure_store.specs.Active.{own_of}
+use Rattle.sealed_pair.specs.Active.{own_of}
 use Rattle.secure_store.specs.Doubts.{doubted}
 use Rattle.secure_store.specs.SecureState.{state_in}
 use Rattle.secure_store.proofs.SettleLemmas.{done_above, done_answers, done_below, not_stopped, refusal_above, refusal_answers, refusal_below, run_begun, run_free, stopped_by, stops_by, while_stopped}

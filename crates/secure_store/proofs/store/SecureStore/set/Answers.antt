@@ -2,8 +2,8 @@ use Rattle.std.proofs.Common.{rules, ◌≡◌, true, false, length, IsTrue}
 use Rattle.std.specs.Prelude.{Some, is_none, nat_lt}
 use Rattle.kv_model.specs.Flags.{is_secure_flags}
 use Rattle.kv_model.specs.Keys.{is_key}
-use Rattle.secure_store.specs.Active.{taken}
-use Rattle.secure_store.specs.declared.limits.TheConstants.{MAX_SECURE_VALUE}
+use Rattle.sealed_pair.specs.Active.{taken}
+use Rattle.sealed_pair.specs.declared.limits.TheConstants.{MAX_SECURE_VALUE}
 use Rattle.secure_store.proofs.TakenLemmas.{taken_answers}
 use Rattle.secure_store.proofs.store.SecureStore.set.Goals as goal
 

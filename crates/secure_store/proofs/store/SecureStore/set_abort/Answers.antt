@@ -3,7 +3,7 @@ use Rattle.std.specs.Prelude.{is_some}
 use Rattle.kv_model.specs.declared.call.Reply.TheVariants.{Done}
 use Rattle.kv_model.specs.Kv.{answered}
 use Rattle.kv_model.specs.Operations.{Abort}
-use Rattle.secure_store.proofs.EndingLemmas.{ended_by}
+use Rattle.sealed_pair.proofs.EndingLemmas.{ended_by}
 use Rattle.secure_store.proofs.SettleLemmas.{done_above, done_answers, done_below, not_stopped, some_or_none}
 use Rattle.secure_store.proofs.store.SecureStore.set_abort.Goals as goal
 

@@ -4,8 +4,8 @@ use Rattle.kv_model.specs.declared.error.KvError.TheVariants.{WriteFault}
 use Rattle.kv_model.specs.declared.call.Reply.TheVariants.{Done}
 use Rattle.kv_model.specs.Kv.{answered}
 use Rattle.kv_model.specs.Operations.{Set}
-use Rattle.secure_store.specs.Active.{own_of}
-use Rattle.secure_store.specs.Running.{HasRun, parts}
+use Rattle.sealed_pair.specs.Active.{own_of}
+use Rattle.sealed_pair.specs.Running.{HasRun, parts}
 use Rattle.secure_store.proofs.SettleLemmas.{done_above, done_answers, done_below, not_stopped, refusal_above, refusal_answers, refusal_below, run_free, stopped_by, stops_by, while_stopped}
 use Rattle.secure_store.proofs.store.SecureStore.set_free.Goals as goal
 

@@ -1,5 +1,0 @@
-use Rattle.secure_store.proofs.RemoveLemmas.{remove_shows, reset_shows}
-use Rattle.secure_store.proofs.laws.a_removed_key_is_absent.Goals as goal
-
-pub returns : goal.returns
-returns c = record { remove = remove_shows; reset = reset_shows }

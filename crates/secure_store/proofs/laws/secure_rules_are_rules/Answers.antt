@@ -1,5 +1,0 @@
-use Rattle.secure_store.proofs.RulesLemmas.{secure_are_rules, secure_shares}
-use Rattle.secure_store.proofs.laws.secure_rules_are_rules.Goals as goal
-
-pub returns : goal.returns
-returns c = record { rules = secure_are_rules; iterators = secure_shares }

@@ -1,5 +1,0 @@
-use Rattle.secure_store.proofs.ProtectedLemmas.{refused_where_protected}
-use Rattle.secure_store.proofs.laws.write_once_keys_are_refused.Goals as goal
-
-pub returns : goal.returns
-returns c = refused_where_protected
