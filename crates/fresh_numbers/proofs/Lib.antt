@@ -1,0 +1,9 @@
+pub mod AttackLemmas
+pub mod EventLemmas
+pub mod HistoryLemmas
+pub mod MacLemmas
+pub mod NumberLemmas
+pub mod OnceLemmas
+pub mod PutBackLemmas
+pub mod ReplayLemmas
+pub mod StepLemmas

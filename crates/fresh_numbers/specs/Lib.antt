@@ -1,0 +1,4 @@
+pub mod Attacks
+pub mod Histories
+pub mod PutBacks
+pub mod Replays
