@@ -1,5 +1,5 @@
 -- What is read of the word of a cut is the cut that it spells, and what it spells is read.
-use Rattle.std.proofs.Common.{◌≡◌, ℕ, ◌^◌, ◌<◌, eqb, List, [], ◌∷◌, Some, refl, sym, ap, subst, ◌∙◌, arith}
+use Rattle.std.proofs.Common.{◌≡◌, ℕ, ◌^◌, ◌<◌, eqb, List, [], ◌∷◌, Some, None, refl, sym, ap, subst, ◌∙◌, arith}
 use Rattle.std.specs.Prelude.{codes}
 use Rattle.std.specs.Fmt.{decimal}
 use Rattle.std.specs.List.{slice_split, join_with_byte}
@@ -7,10 +7,11 @@ use Rattle.std.proofs.lemmas.List.Splits.{join_with_byte-slice_split}
 use Rattle.kv_model.specs.declared.pattern.Pattern.{Pattern}
 use Rattle.kv_model.specs.declared.pattern.Pattern.TheVariants as pattern
 use Rattle.script_core.specs.declared.line.Act.{Act}
-use Rattle.script_core.specs.declared.line.Act.TheVariants.{Cut}
+use Rattle.script_core.specs.declared.line.Act.TheVariants.{Do, Cut}
+use Rattle.script_core.specs.declared.line.PowerCut.{PowerCut}
 use Rattle.script_core.specs.declared.line.Side.{Side}
 use Rattle.script_core.specs.declared.line.Side.TheVariants.{Primary, Rollback}
-use Rattle.script_core.specs.Grammar.{side_letter, pattern_words, IsPattern, cut_word, IsAct}
+use Rattle.script_core.specs.Grammar.{side_letter, pattern_words, IsPattern, cut_word, SpellsCut, IsAct}
 use Rattle.script_core.specs.Reading.{◌>>=◌, word_at, end_at, number_of, count_of, side_of, mix_of, plain_pattern_of, lone_pattern_of, pattern_of, cut_of, lone_cut_of}
 use Rattle.script_core.proofs.Options.{some_is, bind_some}
 use Rattle.script_core.proofs.Rows.{field_some, end_some, named}
@@ -66,7 +67,16 @@ pattern_is (name ∷ parts) torn h =
 abbrev pub IsCutWord : List ℕ → Act → Type 0
 IsCutWord word cut = (side : Side) × (n : ℕ) × (torn : Pattern) × (Cut side n torn ≡ cut) × IsAct (Cut side n torn) × (word ≡ cut_word side n torn)
 
-cut_is : (word : List ℕ) (cut : Act) → cut_of word ≡ Some cut → IsCutWord word cut
+-- what a word is where an act is a cut
+abbrev SpellsAct : List ℕ → Act → Type 0
+SpellsAct word (Cut side n torn) = SpellsCut word (record { side = side; n = n; pattern = torn })
+SpellsAct word (Do call) = ⊥
+
+IsCut-exact : (word : List ℕ) (side : Side) (n : ℕ) (torn : Pattern) → IsCutWord word (Cut side n torn) → SpellsCut word (record { side = side; n = n; pattern = torn })
+IsCut-exact word side n torn (s, m, t, same, valid, spelled) =
+    subst (λ (a : Act). SpellsAct word a) same (valid, spelled)
+
+pub cut_is : (word : List ℕ) (cut : Act) → cut_of word ≡ Some cut → IsCutWord word cut
 unfolding cut_of cut_word
 cut_is word cut h =
     let side = field_some side_of (λ side rest. word_at rest >>= λ w. count_of w.0 >>= λ n. pattern_of w.1 >>= λ torn. Some (Cut side n torn)) (slice_split (λ b. eqb b 58) word) cut h in
@@ -113,7 +123,7 @@ AreWhole-pattern (pattern.Mix seed) h =
     let wide : seed < 2 ^ 64 = omega arith in
     ((refl, (IsWhole-decimal 58 seed refl wide, tt)), ((refl, refl), (IsClean-decimal seed wide, tt)))
 
-cut_of-word : (side : Side) (n : ℕ) (torn : Pattern) → IsAct (Cut side n torn) → cut_of (cut_word side n torn) ≡ Some (Cut side n torn)
+pub cut_of-word : (side : Side) (n : ℕ) (torn : Pattern) → IsAct (Cut side n torn) → cut_of (cut_word side n torn) ≡ Some (Cut side n torn)
 unfolding cut_of cut_word
 cut_of-word side n torn h =
     let wide : n < 2 ^ 64 = omega arith in
@@ -134,3 +144,11 @@ IsClean-cut side n torn h =
       IsWhole-join_with_byte 32 58 (side_letter side) (decimal n ∷ pattern_words torn) refl letter.0 (number.0, rest.0),
       IsWhole-join_with_byte 10 58 (side_letter side) (decimal n ∷ pattern_words torn) refl letter.1 (number.1, rest.1),
     )
+
+-- ---- a word by itself
+
+pub reads_cut : (word : List ℕ) (side : Side) (n : ℕ) (torn : Pattern) → cut_of word ≡ Some (Cut side n torn) → SpellsCut word (record { side = side; n = n; pattern = torn })
+reads_cut word side n torn h = IsCut-exact word side n torn (cut_is word (Cut side n torn) h)
+
+pub reads_no_cut : (word : List ℕ) → cut_of word ≡ None → (other : PowerCut) → SpellsCut word other → ⊥
+reads_no_cut word none other h = absurd (let read = cut_of-word other.side other.n other.pattern h.0 in let same = ap cut_of h.1 in cc)

@@ -12,6 +12,7 @@ use Rattle.script_core.specs.declared.line.Act.TheVariants.{Do, Cut}
 use Rattle.script_core.specs.declared.line.Side.{Side}
 use Rattle.script_core.specs.declared.line.Side.TheVariants.{Primary, Rollback}
 use Rattle.script_core.specs.declared.line.Line.{Line}
+use Rattle.script_core.specs.declared.line.PowerCut.{PowerCut}
 use Rattle.script_core.specs.declared.script.ScriptMode.{ScriptMode}
 
 -- ---- the words of a line
@@ -90,6 +91,10 @@ IsAct (Do (call.IterClose n)) = n ≤ 255
 IsAct (Do call.Reset) = Unit {0}
 IsAct (Do call.Mount) = Unit {0}
 IsAct (Cut side n torn) = (1 ≤ n) × IsNumber n × IsPattern torn
+
+-- one word is the cut
+abbrev pub SpellsCut : List ℕ → PowerCut → Type 0
+SpellsCut word cut = IsAct (Cut cut.side cut.n cut.pattern) × (word ≡ cut_word cut.side cut.n cut.pattern)
 
 -- who may ask for it: a client, but caller 0 for a mount and a cut
 abbrev pub IsCaller : ℕ → Act → Type 0

@@ -19,6 +19,7 @@ use Rattle.script_core.specs.declared.error.ScriptError.TheVariants as faults
 use Rattle.script_core.specs.declared.line.Act.{Act}
 use Rattle.script_core.specs.declared.line.Act.TheVariants.{Do, Cut}
 use Rattle.script_core.specs.declared.line.Line.{Line}
+use Rattle.script_core.specs.declared.line.PowerCut.{PowerCut}
 use Rattle.script_core.specs.declared.line.Side.{Side}
 use Rattle.script_core.specs.declared.line.Side.TheVariants.{Primary, Rollback}
 use Rattle.script_core.specs.declared.script.ScriptMode.{ScriptMode}
@@ -56,6 +57,9 @@ GivesCall result read = GivesBy spelled_call result read
 
 abbrev pub GivesAct : Result SpelledAct Malformed → Option Act → Type 0
 GivesAct result read = GivesBy spelled_act result read
+
+abbrev pub GivesCut : Result PowerCut Malformed → Option Act → Type 0
+GivesCut result read = GivesBy (λ (cut : PowerCut). Cut cut.side cut.n cut.pattern) result read
 
 abbrev pub GivesLine : Result SpelledLine Malformed → Option Line → Type 0
 GivesLine result read = GivesBy spelled_line result read

@@ -1,10 +1,13 @@
 // The word for a power cut.
+ghost use Rattle.std.specs.Prelude.{MatchOption};
+ghost use Rattle.script_core.specs.declared.line.PowerCut.{PowerCut};
+ghost use Rattle.script_core.specs.Grammar.{SpellsCut};
 ghost use Rattle.script_core.specs.Parts.{parts_left};
-ghost use Rattle.script_core.specs.Reading.{GivesIt, GivesAct, side_of, mix_of, plain_pattern_of, lone_pattern_of, pattern_of, cut_of, lone_cut_of};
+ghost use Rattle.script_core.specs.Reading.{GivesIt, GivesAct, GivesCut, side_of, mix_of, plain_pattern_of, lone_pattern_of, pattern_of, cut_of, lone_cut_of};
 
 use crate::error::Malformed;
 use crate::fields;
-use crate::line::Side;
+use crate::line::{PowerCut, Side};
 use crate::parts::Parts;
 use crate::spelled::SpelledAct;
 use kv_model::Pattern;
@@ -64,21 +67,34 @@ fn pattern(mut parts: Parts) -> Result<Pattern, Malformed>
 
 // Side, number and pattern, with one colon between each two.
 #[tactic(auto, unfolding(crate::specs::Reading::cut_of))]
-fn cut<'a>(word: &[u8]) -> Result<SpelledAct<'a>, Malformed>
-    ensures { GivesAct result (cut_of word.now) }
+fn cut(word: &[u8]) -> Result<PowerCut, Malformed>
+    ensures { GivesCut result (cut_of word.now) }
 {
     let mut parts = Parts::new(b':', word);
     let side = side(parts.part()?)?;
     let n = fields::count(parts.part()?)?;
     let pattern = pattern(parts)?;
-    Ok(SpelledAct::Cut { side, n, pattern })
+    Ok(PowerCut { side, n, pattern })
 }
 
 #[tactic(auto, unfolding(crate::specs::Reading::lone_cut_of))]
 pub(crate) fn lone_cut<'a>(mut words: Parts<'a>) -> Result<SpelledAct<'a>, Malformed>
     ensures { GivesAct result (lone_cut_of (parts_left words.entry)) }
 {
-    let cut = cut(words.part()?)?;
+    let PowerCut { side, n, pattern } = cut(words.part()?)?;
     words.end()?;
-    Ok(cut)
+    Ok(SpelledAct::Cut { side, n, pattern })
+}
+
+/// The cut that one word spells, as a line of client 0 has it behind `cut`: side, number and
+/// pattern, with one colon between each two. `None` where it spells none. It takes no memory.
+pub fn read_cut(word: &[u8]) -> Option<PowerCut>
+    ensures { MatchOption result
+        ((other : PowerCut) → SpellsCut word.now other → ⊥)
+        (SpellsCut word.now) }
+{
+    match cut(word) {
+        Ok(cut) => Some(cut),
+        Err(Malformed) => None,
+    }
 }

@@ -18,9 +18,10 @@ mod spelled;
 #[cfg(test)]
 mod tests;
 
+pub use cut::read_cut;
 pub use error::ScriptError;
 pub use laws::{a_line_has_one_reading, a_text_has_one_reading, lines_end_in_line_feeds};
-pub use line::{Act, Line, Side};
+pub use line::{Act, Line, PowerCut, Side};
 pub use order_laws::entries_are_calls;
 pub use parse::parse_script;
 pub use print::print_line;

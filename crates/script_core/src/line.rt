@@ -7,6 +7,15 @@ pub enum Side {
     Rollback,
 }
 
+/// A power cut inside the `n`th program or erase of the chip of `side` from here on, which leaves
+/// `pattern` of it. `n` is at least 1.
+#[derive(Clone, Copy, Debug, PartialEq, Eq)]
+pub struct PowerCut {
+    pub side: Side,
+    pub n: u32,
+    pub pattern: Pattern,
+}
+
 /// What a line asks for.
 #[derive(Debug, Drop, PartialEq, Eq)]
 pub enum Act {

@@ -263,3 +263,27 @@ fn a_script_has_at_most_8192_lines(rt: HostRuntime) -> Result<(), Fail> {
     );
     Ok(())
 }
+
+#[test]
+fn a_word_that_is_a_cut_by_itself(rt: HostRuntime) -> Result<(), Fail> {
+    let (side, pattern) = (Side::Rollback, Pattern::Mix { seed: 5 });
+    assert_eq!(rt;
+        read_cut(b"r:9:mix:5"),
+        Some(PowerCut {
+            side,
+            n: 9,
+            pattern
+        })
+    );
+    for word in [
+        b"".as_slice(),
+        b"cut",
+        b"p:0:none",
+        b"p:1:none ",
+        b"p:01:all",
+        b"p:1",
+    ] {
+        assert_eq!(rt; read_cut(word), None);
+    }
+    Ok(())
+}

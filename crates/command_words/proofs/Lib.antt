@@ -1,0 +1,6 @@
+mod GeometryLemmas
+mod ItemLemmas
+mod MeaningLemmas
+mod NumberLemmas
+mod SplitLemmas
+mod ValueLemmas

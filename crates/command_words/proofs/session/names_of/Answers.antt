@@ -1,0 +1,15 @@
+use Rattle.std.proofs.Common.{◌≡◌, ℕ, List, Some, None, rules}
+use Rattle.std.specs.Prelude.{slice_get}
+use Rattle.command_words.specs.Items.{words_of}
+use Rattle.command_words.specs.Shown.{items_in}
+use Rattle.command_words.proofs.ValueLemmas.{none_at, three}
+use Rattle.command_words.proofs.session.names_of.Goals as goal
+
+pub returns : goal.returns
+returns c =
+    let words : List (List ℕ) = words_of (items_in c.args.words) in
+    let last : slice_get words 3 ≡ None = none_at c.nth_word.result words 3 c.nth_word.ensures (search rules) in
+    let first : slice_get words 0 ≡ Some c.in_ok-ok_or.field-0.now = search rules in
+    let second : slice_get words 1 ≡ Some c.in_ok-ok_or-2.field-0.now = search rules in
+    let third : slice_get words 2 ≡ Some c.in_ok-ok_or-3.field-0.now = search rules in
+    three words c.in_ok-ok_or.field-0.now c.in_ok-ok_or-2.field-0.now c.in_ok-ok_or-3.field-0.now first second third last

@@ -1,0 +1,12 @@
+use Rattle.std.proofs.Common.{rules, ℕ, List, Option, None}
+use Rattle.command_words.specs.Items.{values_of}
+use Rattle.command_words.specs.Shown.{items_in}
+use Rattle.command_words.specs.Values.{default_geometry, default_root_key, SpellsRootKey, Says}
+use Rattle.command_words.proofs.ValueLemmas.{twice_says_nothing}
+use Rattle.command_words.proofs.values.root_key_of.Goals as goal
+
+pub returns-in_err-word : goal.returns-in_err-word
+returns-in_err-word c =
+    let values : List (List ℕ) = values_of c.args.option (items_in c.args.words) in
+    let refused : (y : List ℕ) → Says SpellsRootKey default_root_key values y → ⊥ = twice_says_nothing SpellsRootKey default_root_key values c.in_err-word.ensures in
+    search rules

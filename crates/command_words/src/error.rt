@@ -1,0 +1,6 @@
+use thiserror::Error;
+
+/// The words are no command.
+#[derive(Clone, Copy, Debug, PartialEq, Eq, Error)]
+#[error("the words are no command")]
+pub struct WrongWords;
