@@ -1,0 +1,10 @@
+pub mod Backing
+pub mod Calling
+pub mod Chips
+pub mod Laws
+pub mod Mounting
+pub mod Replaying
+pub mod Search
+pub mod Settling
+pub mod Telling
+pub mod Views

@@ -1,0 +1,29 @@
+-- What mounting the chips of a session leaves.
+use Rattle.std.specs.Prelude.{◌≡◌, ℕ, true, [], ◌∷◌}
+use Rattle.std.specs.Option.{ForSome}
+use Rattle.flash_sim.specs.ChipState.{ChipState, device_of}
+use Rattle.kv_model.specs.Kv.{KvState}
+use Rattle.kv_model.specs.Rules.{Mounts as MountsTo}
+use Rattle.plain_store.specs.Mounting.{IsFresh}
+use Rattle.tdb_mount.specs.Format.{MountsAlike}
+use Rattle.session_core.specs.Backing.{session_rules}
+
+-- The chip has power on, and its image mounts to the map to which it did.
+pub record HasKept (old new : ChipState) : Type 0 where
+  pub geometry : new.geometry ≡ old.geometry
+  pub map : MountsAlike old.geometry old.image new.image
+  pub label : new.label ≡ []
+
+-- The chip was mounted so: this is what is told of it then.
+pub record HasMounted (old new : ChipState) (hash_bits : ℕ) (s : KvState) : Type 0 where
+  pub kept : HasKept old new
+  pub fresh : IsFresh (device_of old) hash_bits s
+  pub labels : s.known.labels ≡ [] ∷ []
+  pub sound : s.known.sound ≡ true
+  pub read_faults : s.known.read_faults ≡ (device_of old).read_faults
+  pub write_faults : s.known.write_faults ≡ (device_of old).write_faults
+
+-- A mount leads from the state that was told to the one that is.
+pub record LeadsOn (old new : KvState) : Type 0 where
+  pub constants : new.known.constants ≡ old.known.constants
+  pub leads : ForSome old.known.state (λ before. ForSome new.known.state (λ after. MountsTo (session_rules old.known.constants) before after))

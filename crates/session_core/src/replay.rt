@@ -1,0 +1,116 @@
+// The lines of a script, run on a session in their order.
+ghost use Rattle.std.specs.Prelude.{◌≡◌, ◌≢◌, ◌∷◌, ◌<◌, [], false, true, All, IfOk, length};
+ghost use Rattle.script_core.specs.Grammar.{CutsNoRollback, IsLine};
+ghost use Rattle.script_core.specs.declared.line.Act.TheVariants.{Do};
+ghost use Rattle.script_core.specs.declared.line.Line.{Line};
+ghost use Rattle.session_core.specs.Replaying.{Replays, RunsLine};
+
+use crate::{Ended, Session};
+use journal_core::Journal;
+use kv_memory::run_calls;
+use kv_model::{Call, NoMemory, Reply};
+use script_core::{Act, Line, Script};
+use std::alloc::Global;
+
+/// What a replay gives: the calls that were made, with their replies, and how it ended.
+#[derive(Drop)]
+pub struct Outcome {
+    pub journal: Journal,
+    pub ended: Ended,
+}
+
+// A copy of a call.
+fn copy_of(call: &Call) -> Result<Call, NoMemory>
+    ensures { IfOk result (λ copy. copy ≡ call.now) }
+{
+    Ok(call.clone()?)
+}
+
+fn is_mount(call: &Call) -> bool
+    ensures mount { result ≡ true → call.now ≡ Call.Mount }
+    ensures other { result ≡ false → call.now ≢ Call.Mount }
+{
+    matches!(call, Call::Mount)
+}
+
+impl Session {
+    // Settles the session, and notes the mount as an entry of caller 0.
+    fn run_mount(&mut self, alloc: Global, journal: &mut Journal) -> Ended
+        requires { length journal.old.entries < 4294967295 }
+        ensures { RunsLine self.old self.new journal.old.entries journal.new.entries
+            (record { who = 0; act = Do Call.Mount }) result }
+    {
+        if journal.reserve().is_err() {
+            return Ended::Memory;
+        }
+        match self.settle(alloc) {
+            Ended::Whole => {
+                journal.append(0, Call::Mount, Reply::Done);
+                Ended::Whole
+            }
+            Ended::Chance { side, place } => Ended::Chance { side, place },
+            Ended::Memory => Ended::Memory,
+        }
+    }
+
+    // Makes a call of a client, which is no mount, and notes it with its reply.
+    fn run_call(&mut self, alloc: Global, journal: &mut Journal, who: u8, call: &Call) -> Ended
+        requires numbers { length journal.old.entries < 4294967295 }
+        requires no_mount { call.now ≢ Call.Mount }
+        ensures { RunsLine self.old self.new journal.old.entries journal.new.entries
+            (record { who = who; act = Do call.now }) result }
+    {
+        let Ok(copy) = copy_of(call) else {
+            return Ended::Memory;
+        };
+        match run_calls(alloc, self, &[(who, copy)], journal) {
+            Ok(()) => Ended::Whole,
+            Err(NoMemory) => Ended::Memory,
+        }
+    }
+
+    // Runs one line.
+    fn run_line(&mut self, alloc: Global, journal: &mut Journal, line: &Line) -> Ended
+        requires numbers { length journal.old.entries < 4294967295 }
+        requires line { IsLine line.now }
+        requires primary { CutsNoRollback line.now.act }
+        ensures { RunsLine self.old self.new journal.old.entries journal.new.entries line.now
+            result }
+    {
+        match &line.act {
+            Act::Cut { side, n, pattern } => match self.arm(alloc, *side, *n, *pattern) {
+                Ok(()) => Ended::Whole,
+                Err(NoMemory) => Ended::Memory,
+            },
+            Act::Do { call } => {
+                if is_mount(call) {
+                    self.run_mount(alloc, journal)
+                } else {
+                    self.run_call(alloc, journal, line.who, call)
+                }
+            }
+        }
+    }
+
+    /// Runs the lines in their order, and notes each call with its reply. A line `0 mount` settles
+    /// the session, on a store that runs too, and is noted as a call of client 0 with the reply
+    /// `Done`; a line `0 cut` arms a chip and is not noted. Where a record is there by chance at a
+    /// mount the replay ends there, and so it does for want of memory. A plain session is given no
+    /// cut of the rollback chip.
+    pub fn replay(&mut self, alloc: Global, script: &Script) -> Outcome
+        requires { All (λ (line : Line). CutsNoRollback line.act) script.now }
+        ensures { Replays self.old self.new script.now result }
+    {
+        let mut journal = Journal::new(alloc);
+        for line in script.lines() {
+            let ended = self.run_line(alloc, &mut journal, line);
+            if ended != Ended::Whole {
+                return Outcome { journal, ended };
+            }
+        }
+        Outcome {
+            journal,
+            ended: Ended::Whole,
+        }
+    }
+}
