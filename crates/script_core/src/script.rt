@@ -47,4 +47,12 @@ impl Script {
     {
         &self.lines
     }
+
+    /// Gives the lines away, first to last: they are moved, not copied.
+    pub fn into_lines(self) -> Vec<Line>
+        ensures lines { result.items ≡ self }
+        ensures valid { AreLines self }
+    {
+        self.lines
+    }
 }
