@@ -20,7 +20,7 @@ use Rattle.record_core.proofs.MountLemmas.{mounts_once}
 use Rattle.area_log.specs.Areas.{end_of, first_place}
 use Rattle.area_log.specs.Listing.{listed}
 use Rattle.tdb_mount.specs.declared.mount.Parts.{Parts}
-use Rattle.tdb_mount.specs.Format.{MountsAlike, MountsBy}
+use Rattle.tdb_mount.specs.Format.{Leaves, MountsAlike, MountsBy}
 use Rattle.record_core.specs.CutMoments.{Cuts}
 use Rattle.flash_core.proofs.KeptLaws.{told_before}
 use Rattle.tdb_mount.specs.Index.{IsTable, places_of}
@@ -113,6 +113,7 @@ module _ (old new : FlashState) (runs : RunsBy old new (MountsBy old.geometry) D
     (valid : IsValid old.geometry) (safe : AreSafe old.geometry parts)
     (mounted : ForSome old.image (λ image. ForSome new.image (λ left. MountsAs old.geometry hash_bits image left parts)))
     (cuts : RunsBy old new (Cuts old.geometry (MountsAlike old.geometry)) Done)
+    (leaves : ForSome old.image (λ image. ForSome new.image (λ left. Leaves old.geometry image left Done)))
     (work : ℕ) (unit : List ℕ) (work_is : work ≡ 4096) (unit_is : length unit ≡ new.geometry.prog) where
   abbrev view : LogView
   view = record { device = new; log = log_of hash_bits parts work unit }
@@ -147,4 +148,5 @@ module _ (old new : FlashState) (runs : RunsBy old new (MountsBy old.geometry) D
         let is = mounted image told left now in
         ap map_of (records_same old.geometry valid left hash_bits parts is.found work unit) ∙ sym is.stands
         ∙ mounts_once old.geometry image (prog_positive old.geometry valid) is.map m is.mounts mounts;
+    leaves = leaves;
   }

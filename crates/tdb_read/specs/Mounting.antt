@@ -10,7 +10,7 @@ use Rattle.record_core.specs.CutMoments.{Cuts}
 use Rattle.record_core.specs.Mounts.{Mounts}
 use Rattle.tdb_mount.specs.declared.mount.MountError.{MountError}
 use Rattle.tdb_mount.specs.declared.mount.MountError.TheVariants.{BadGeometry}
-use Rattle.tdb_mount.specs.Format.{MountsAlike, MountsBy}
+use Rattle.tdb_mount.specs.Format.{Leaves, MountsAlike, MountsBy}
 use Rattle.tdb_mount.specs.Refusals.{mount_ending}
 use Rattle.tdb_read.specs.Reads.{map_in}
 use Rattle.tdb_read.specs.Views.{IsReady, LogView}
@@ -25,6 +25,8 @@ pub record IsMounted (old : FlashState) (hash_bits : ℕ) (v : LogView) : Type 0
   pub no_iterators : v.log.iterators ≡ map.empty
   pub same_map : ForSome old.image (λ image. ForSome v.device.image (λ left.
       (m : FlaggedMap) → Mounts old.geometry image m → map_in old.geometry v.log left ≡ m))
+  -- all of that image stands where some area of it is valid, and it was formatted else
+  pub leaves : ForSome old.image (λ image. ForSome v.device.image (λ left. Leaves old.geometry image left Done))
 
 -- It was not: where the geometry is not valid nothing was touched.
 pub record IsUnmounted (old new : FlashState) (e : MountError) : Type 0 where

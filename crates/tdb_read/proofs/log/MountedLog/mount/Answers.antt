@@ -25,5 +25,5 @@ returns-in-Ok-buffers-clause-mounted g c =
     let unit = c.in-Ok-buffers.unit.items in
     subst (λ (its : Iterators). IsMounted old c.args.hash_bits (record { device = new; log = record (log_of c.args.hash_bits parts work unit) { iterators = its } })) (sym c.new.ensures)
     (is_mounted old new is.runs c.args.hash_bits c.requires.bits parts
-    (valid_if old.geometry (λ bad. not_both parts (is.bad_geometry.1 bad))) is.safe is.mounted is.cuts
+    (valid_if old.geometry (λ bad. not_both parts (is.bad_geometry.1 bad))) is.safe is.mounted is.cuts is.leaves
     work unit c.in-Ok-buffers.ensures.work (c.in-Ok-buffers.ensures.unit ∙ ap (λ (x : Geometry). x.prog) c.geometry.ensures))
