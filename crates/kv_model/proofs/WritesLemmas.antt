@@ -39,7 +39,7 @@ pub map_of-append : (rs : List Write) (r : Write) → map_of (rs ++ r ∷ []) �
 map_of-append rs r = map_after-append map.empty rs (r ∷ [])
 
 -- what a call writes, and the set that it leaves, are those of its outcome
-record Agrees (old : StoreState) (who : ℕ) (asked : Call) (outcome : Outcome) : Type 0 where
+pub record Agrees (old : StoreState) (who : ℕ) (asked : Call) (outcome : Outcome) : Type 0 where
   set : outcome.state.open_set ≡ set_after old.open_set who asked outcome.reply
   map_is : outcome.state.primary ≡ map_after old.primary (written old.open_set asked outcome.reply)
 
@@ -390,7 +390,7 @@ only_reset call.Reset asks = refl
 only_reset call.Mount asks = absurd (cc)
 
 module _ (constants : Constants) where
-  asked_agrees : (old new : StoreState) (entry : Entry) (asks : Option Operation) → operation_of entry.call ≡ asks → IsPlain old → NoRemoveBegun old → IsOrdinary entry
+  pub asked_agrees : (old new : StoreState) (entry : Entry) (asks : Option Operation) → operation_of entry.call ≡ asks → IsPlain old → NoRemoveBegun old → IsOrdinary entry
       → MatchOption asks ((entry.reply ≡ Done) × Mounts (plain_rules constants) old new)
       (λ operation. Steps (plain_rules constants) old entry.who operation (record { state = new; reply = entry.reply }))
       → Agrees old entry.who entry.call (record { state = new; reply = entry.reply })

@@ -1,13 +1,13 @@
 -- What the calls of a session keep, and what they answer while it is not mounted.
-use Rattle.std.proofs.Common.{◌≡◌, ℕ, false, refl, ◌∙◌, ap, subst, sym, arith}
-use Rattle.std.specs.Prelude.{Option, Some, None, is_some}
+use Rattle.std.proofs.Common.{◌≡◌, ℕ, refl, ◌∙◌, ap, subst, arith}
+use Rattle.std.specs.Prelude.{Some, None, is_some}
 use Rattle.std.specs.Option.{ForSome}
 use mathlib.Core.Bool.{false≢true}
 use Rattle.flash_sim.specs.ChipState.{ChipState}
 use Rattle.kv_model.specs.declared.call.Reply.TheVariants.{Refused}
 use Rattle.kv_model.specs.declared.error.KvError.TheVariants.{Stopped}
 use Rattle.kv_model.specs.Constants.{Constants}
-use Rattle.kv_model.specs.Kv.{Answered, Answers, KvState, answered}
+use Rattle.kv_model.specs.Kv.{Answered, Answers, answered}
 use Rattle.kv_model.specs.Operations.{Operation}
 use Rattle.plain_store.proofs.CallLemmas.{some_is}
 use Rattle.session_core.specs.declared.backing.Store.{Store}

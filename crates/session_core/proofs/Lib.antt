@@ -1,5 +1,13 @@
+pub mod AreaLemmas
 pub mod CallLemmas
+pub mod CutLemmas
+pub mod GrowLemmas
+pub mod LineLemmas
+pub mod LogLemmas
 pub mod MountLemmas
+pub mod PowerLemmas
 pub mod ReplayLemmas
+pub mod RunningLemmas
 pub mod SearchLemmas
 pub mod SettleLemmas
+pub mod TurnLemmas

@@ -1,11 +1,11 @@
 -- What mounting the chip of a session gives.
-use Rattle.std.proofs.Common.{◌≡◌, ◌⊎◌, ℕ, Bool, true, List, [], ◌∷◌, inl, inr, refl, sym, ◌∙◌, ap, subst, IsTrue}
-use Rattle.std.specs.Prelude.{Option, Some, None, MatchOption, Contains, is_some}
+use Rattle.std.proofs.Common.{◌≡◌, ℕ, true, List, [], ◌∷◌, refl, sym, ◌∙◌, ap, subst, IsTrue}
+use Rattle.std.specs.Prelude.{Option, Some, None, MatchOption, Contains, is_none, is_some}
 use mathlib.Core.Bool.{false≢true}
 use Rattle.std.specs.FinMap as map
 use Rattle.std.specs.Option.{ForSome}
 use Rattle.flash_core.specs.Sizes.{IsValid}
-use Rattle.flash_core.specs.State.{DeviceCall, FlashState}
+use Rattle.flash_core.specs.State.{DeviceCall}
 use Rattle.flash_sim.specs.ChipState.{ChipState, device_of}
 use Rattle.flash_sim.specs.Plan.{names_from}
 use Rattle.flash_sim.specs.Views.{view_of}
@@ -22,8 +22,8 @@ use Rattle.record_core.proofs.Existence.{some_contents}
 use Rattle.tdb_mount.specs.declared.mount.MountError.{MountError}
 use Rattle.tdb_mount.specs.declared.mount.MountError.TheVariants as mount
 use Rattle.tdb_read.specs.Mounting.{IsMounted, IsUnmounted}
-use Rattle.tdb_read.specs.States.{IsUnlikely, MapsStand, constants_of, kv_state}
-use Rattle.tdb_read.specs.Views.{LogPart, LogView, view_of as log_view}
+use Rattle.tdb_read.specs.States.{IsUnlikely, MapsStand, constants_of, kv_state, log_in}
+use Rattle.tdb_read.specs.Views.{LogPart, LogView, records_in, view_of as log_view}
 use Rattle.plain_store.specs.Mounting.{IsFresh}
 use Rattle.plain_store.specs.Sets.{set_in}
 use Rattle.plain_store.specs.Stores.{IsStore, noted_in, state_by as store_state}
@@ -32,11 +32,12 @@ use Rattle.plain_store.proofs.CallLemmas.{some_is}
 use Rattle.plain_store.proofs.RestoredLemmas.{is_kept}
 use Rattle.plain_store.proofs.StoreLemmas.{view_at}
 use Rattle.session_core.specs.declared.backing.Chips.{Chips}
+use Rattle.session_core.specs.declared.backing.Chips.TheVariants.{One}
 use Rattle.session_core.specs.declared.backing.Store.{Store}
 use Rattle.session_core.specs.declared.backing.Store.TheVariants.{Plain}
 use Rattle.session_core.specs.Backing.{chip_behind, primary_by, state_by, told_by, unmounted}
 use Rattle.session_core.specs.Laws.{store_is_lawful}
-use Rattle.session_core.specs.Telling.{IsToldMap, over_one}
+use Rattle.session_core.specs.Telling.{IsToldMap, TellsLog, over_one}
 use Rattle.session_core.specs.Chips.{device_in, powered}
 use Rattle.session_core.specs.Mounting.{HasKept, HasMounted, LeadsOn}
 use Rattle.session_core.specs.Search.{IsChanceBy, IsChanceOf}
@@ -68,6 +69,7 @@ module _ (chip new : ChipState) where
           map = is.cuts.stands chip.image refl new.image refl;
           label = is.runs.kept.label;
         };
+        leaves = is.leaves chip.image refl new.image refl;
         fresh = record { constants = fresh.constants; state = fresh.state };
         labels = ap (λ (o : Opening). o.labels) known ∙ ap (λ (l : List ℕ). l ∷ []) is.runs.kept.label;
         sound = ap (λ (o : Opening). o.sound) known ∙ is.runs.kept.sound (powered_sound chip);
@@ -184,6 +186,27 @@ module _ (chip : ChipState) (log : LogPart) (active : Option ActiveSet) where
       before.doubt is.doubt (sym (ap (λ (s : StoreState). s.doubt) (some_is told)) ∙ is.is)
       (λ none. lawful.stands before told (over_one m) (stand_in chip log active (Some noted) m mounts none))
 
+module _ (chip : ChipState) (log : LogPart) (active : Option ActiveSet) where
+  -- the log of a store that runs is that of its image
+  log_told_at : (note : Option StoreState) → IsStore (view_at (view chip log active) active note) → TellsLog chip (state_at chip log active note)
+  log_told_at None is = λ state told runs.
+      let is_log = is.ready.stands chip.image refl in (
+        log_in chip.geometry log chip.image,
+        record {
+          told = refl;
+          is = record {
+            contents = record { first = is_log.first; second = is_log.second; records = records_in chip.geometry log chip.image; end = log.end };
+            holds = is_log.holds;
+            active = is_log.active;
+            version = is_log.version;
+            records = refl;
+            clean = is_log.clean;
+          };
+        },
+      )
+  log_told_at (Some noted) is = λ state told runs.
+      none_told is.doubt (sym runs ∙ ap (λ (s : StoreState). s.doubt) (sym (some_is told)) ∙ is.is)
+
 pub leads_store : (bits : ℕ) (store : Store) (new : KvState) → (told_by store).known.constants.hash_bits ≡ bits → IsFresh (device_of (chip_behind store)) bits new
     → IsChanceOf (chip_behind store) None → LeadsOn (told_by store) new
 leads_store bits (Plain store) new same fresh none =
@@ -205,6 +228,18 @@ told_map bits (Some (Plain store)) chips m mounts =
     told_map_at (view_of store.store.log.flash) (log_view device_in store.store.log).log store.store.active (noted_in store.store.stopped)
     (is_kept device_in store.store store.kept) (store_is_lawful (Plain store)) m mounts
 told_map bits None chips m mounts = λ before told. none_told before told
+
+-- its chip is one of a valid geometry
+pub valid_by : (store : Option Store) (chips : Option Chips) → is_some chips ≡ is_none store → IsValid (primary_by store chips).geometry
+valid_by (Some (Plain store)) chips one = store.store.log.flash.valid
+valid_by None (Some (One chip)) one = chip.valid
+valid_by None None one = absurd (false≢true one)
+
+pub told_log : (bits : ℕ) (store : Option Store) (chips : Option Chips) → TellsLog (primary_by store chips) (state_by bits store chips)
+told_log bits (Some (Plain store)) chips =
+    log_told_at (view_of store.store.log.flash) (log_view device_in store.store.log).log store.store.active (noted_in store.store.stopped)
+    (is_kept device_in store.store store.kept)
+told_log bits None chips = λ state told. none_told state told
 
 -- of a session, mounted or not
 pub leads_session : (bits : ℕ) (store : Option Store) (chips : Option Chips) (new : KvState) → ForSome store (λ s. (told_by s).known.constants.hash_bits ≡ bits)

@@ -1,25 +1,31 @@
 -- How a replay goes on by one line.
-use Rattle.std.proofs.Common.{◌≡◌, ◌≢◌, ◌⊎◌, ℕ, zero, suc, ◌+◌, ◌≤◌, ◌<◌, Bool, true, false, map, List, [], ◌∷◌, ◌++◌, length, refl, sym, ◌∙◌, ap, subst, inl, inr, append_assoc, arith}
-use Rattle.std.specs.Prelude.{Option, Some, None, Result, Ok, Err, is_some, take}
+use Rattle.std.proofs.Common.{◌≡◌, ◌≢◌, ◌⊎◌, ℕ, ◌+◌, ◌≤◌, ◌<◌, true, false, map, List, [], ◌∷◌, ◌++◌, length, refl, sym, ◌∙◌, ap, subst, inl, inr, append_assoc, arith}
+use Rattle.std.specs.Prelude.{Option, Some, None, Result, Ok, Err, drop, is_some, take}
 use Rattle.std.proofs.lemmas.Grind.{flat_map-append}
-use Rattle.std.proofs.lemmas.List.{append-nil, length-append, length-map, length-take-le, map-append}
+use Rattle.std.proofs.lemmas.List.{append-nil, length-append, length-map, length-take-le, map-append, take-append-drop}
 use mathlib.Core.Bool.{false≢true}
 use Rattle.base_core.specs.declared.no_memory.NoMemory.{NoMemory}
+use Rattle.flash_core.specs.declared.geometry.Geometry.{Geometry}
 use Rattle.kv_model.specs.declared.call.Call.{Call}
 use Rattle.kv_model.specs.declared.call.Call.TheVariants as call
 use Rattle.kv_model.specs.declared.call.Entry.{Entry}
-use Rattle.kv_model.specs.declared.call.Reply.TheVariants.{Done}
+use Rattle.kv_model.specs.declared.call.Reply.{Reply}
+use Rattle.kv_model.specs.declared.call.Reply.TheVariants.{Done, Refused}
+use Rattle.kv_model.specs.declared.error.KvError.TheVariants as error
 use Rattle.kv_model.specs.declared.pattern.Pattern.{Pattern}
 use Rattle.kv_model.specs.Arming.{Arms}
 use Rattle.kv_model.specs.Constants.{Constants}
 use Rattle.kv_model.specs.History.{AreNumbered, IsLegal, Runs}
 use Rattle.kv_model.specs.Kv.{KvState}
 use Rattle.kv_model.specs.Orders.{Line, line_of}
+use Rattle.kv_model.specs.Performs.{Performs}
+use Rattle.kv_model.specs.Opening.{Log}
+use Rattle.kv_model.specs.Rules.{Mounts}
 use Rattle.kv_model.specs.StoreState.{StoreState}
 use Rattle.plain_store.proofs.CallLemmas.{some_is}
 use Rattle.journal_core.specs.JournalState.{JournalState, next_entry}
 use Rattle.kv_memory.specs.Going.{HasGoneOn, Seen, seen}
-use Rattle.kv_memory.proofs.GoingLemmas.{runs_joined}
+use Rattle.kv_memory.proofs.GoingLemmas.{begun, performed, runs_joined, unperformed}
 use Rattle.script_core.specs.declared.line.Act.{Act}
 use Rattle.script_core.specs.declared.line.Act.TheVariants.{Do, Cut}
 use Rattle.script_core.specs.declared.line.Line.{Line as ScriptLine}
@@ -29,11 +35,20 @@ use Rattle.session_core.specs.declared.ended.Ended.{Ended}
 use Rattle.session_core.specs.declared.ended.Ended.TheVariants as ended
 use Rattle.session_core.specs.declared.session.Session.{Session}
 use Rattle.session_core.specs.Backing.{session_rules}
+use Rattle.session_core.specs.Growing.{IsTold, LogGoesOn, Told}
+use Rattle.session_core.specs.Laws.{session_is_lawful}
 use Rattle.session_core.specs.Mounting.{LeadsOn}
-use Rattle.session_core.specs.Replaying.{HasReplayed, Replays, RunsLine, StillTells, seen_in}
+use Rattle.session_core.specs.Power.{HasPower, Power, Steady, Shows, ShowsCuts, acts_of, after_call, after_cut}
+use Rattle.session_core.specs.Replaying.{HasReplayed, LogsAct, Replays, RunsLine, ShowsAct, StillTells, seen_in}
 use Rattle.session_core.specs.Settling.{IsSessionChance, IsSettled, IsUnmounted}
-use Rattle.session_core.specs.Views.{state_in}
-use Rattle.session_core.proofs.MountLemmas.{tells_state}
+use Rattle.session_core.specs.Telling.{IsLogIn}
+use Rattle.session_core.specs.Views.{primary_in, state_in}
+use Rattle.session_core.proofs.AreaLemmas.{same_areas}
+use Rattle.session_core.proofs.CutLemmas.{shows_cuts}
+use Rattle.session_core.proofs.LogLemmas.{log_called, log_grows, log_joined, log_mounted, log_stood, mount_leaves, one_run}
+use Rattle.session_core.proofs.MountLemmas.{tells_state, told_log, valid_by}
+use Rattle.session_core.proofs.PowerLemmas.{arm_shows, call_shows, shows_joined}
+use Rattle.session_core.proofs.RunningLemmas.{mounted_runs}
 
 none_told : {X P : Type 0} (x : X) → None ≡ Some x → P
 none_told x is = absurd (false≢true (ap is_some is))
@@ -129,48 +144,139 @@ none_of None is = refl
 none_of (Some x) is = absurd (false≢true (sym is))
 
 module _ (old new : Session) (entries : List Entry) where
+  mount_power : IsSettled old new → (power : Power) → HasPower (state_in old) power → HasPower (state_in new) Steady
+  mount_power is power has =
+      let there = there_is (state_in new).known.state (tells_state new.hash_bits new.store new.chips ∙ is.is_mounted) in
+      let sound : (state_in new).known.sound ≡ true = is.mounted.sound in
+      record {
+        state = there.0;
+        told = there.1;
+        stopped = mounted_runs (session_rules (state_in old).known.constants) has.state there.0 (is.leads.leads has.state has.told there.0 there.1);
+        device = (sound, (session_is_lawful new.hash_bits new.store new.chips).sound_is_steady sound);
+      }
+
+  -- a mount of a store that runs leaves its image, and so its log
+  log_stands : IsSettled old new → (later : Log) → IsLogIn (primary_in new).geometry (primary_in new).image later → (before : Told) → IsTold (state_in old) before
+      → is_some before.state.doubt ≡ false → later ≡ before.log
+  log_stands is later later_is before told running =
+      let chip = primary_in old in
+      let here = told_log old.hash_bits old.store old.chips before.state told.state (none_of before.state.doubt running) in
+      let same : here.0 ≡ before.log = some_is (sym here.1.told ∙ told.log) in
+      let left : IsLogIn chip.geometry (primary_in new).image later =
+      subst (λ (g : Geometry). IsLogIn g (primary_in new).image later) is.mounted.kept.geometry later_is in
+      mount_leaves chip.geometry chip.image (primary_in new).image (valid_by old.store old.chips old.one) is.mounted.leaves before.log later
+      (subst (IsLogIn chip.geometry chip.image) same here.1.is) left
+
+  mount_logs : IsSettled old new → LogGoesOn (state_in old) (state_in new) (next_entry entries 0 call.Mount Done ∷ [])
+  mount_logs is =
+      let there = there_is (state_in new).known.state (tells_state new.hash_bits new.store new.chips ∙ is.is_mounted) in
+      let follows : (before : StoreState) → (state_in old).known.state ≡ Some before → Mounts (session_rules (state_in old).known.constants) before there.0 =
+      λ before told. is.leads.leads before told there.0 there.1 in
+      λ before told.
+      let runs = mounted_runs (session_rules (state_in old).known.constants) before.state there.0 (follows before.state told.state) in
+      let later = told_log new.hash_bits new.store new.chips there.0 there.1 (none_of there.0.doubt runs) in
+      log_mounted (state_in old) (state_in new) (next_entry entries 0 call.Mount Done) refl there.0 there.1 (λ state is_told. (refl, follows state is_told))
+      later.0 later.1.told (log_stands is later.0 later.1.is) before told
+
   pub mount_done : (who : ℕ) → who ≡ 0 → IsSettled old new → RunsLine old new entries (entries ++ next_entry entries 0 call.Mount Done ∷ []) (record { who = who; act = Do call.Mount }) ended.Whole
   mount_done who first is = (
     subst (λ (w : ℕ). HasReplayed (seen_in old entries) (seen_in new (entries ++ next_entry entries 0 call.Mount Done ∷ [])) ((w, call.Mount) ∷ [])) (sym first)
         (one_mount (state_in old) (state_in new) entries is.leads),
-    λ told. tells_state new.hash_bits new.store new.chips ∙ is.is_mounted,
+    (λ told. tells_state new.hash_bits new.store new.chips ∙ is.is_mounted),
+    (λ power has. (next_entry entries 0 call.Mount Done ∷ [], Steady, refl, (refl, refl), mount_power is power has)),
+    (next_entry entries 0 call.Mount Done ∷ [], refl, mount_logs is),
+  )
+
+  pub mount_chance : (side : Side) (place : ℕ) → IsSessionChance old (Some (side, place)) → new ≡ old
+      → RunsLine old new entries entries (record { who = 0; act = Do call.Mount }) (ended.Chance side place)
+  mount_chance side place chance same = (
+    stood (state_in old) (state_in new) entries (ap (λ (s : Session). (state_in s).known.constants) same) (ap (λ (s : Session). (state_in s).known.state) same),
+    (λ told. ap (λ (s : Session). is_some (state_in s).known.state) same ∙ told),
+    subst (λ (s : Session). IsSessionChance s (Some (side, place))) (sym same) chance,
+    refl,
+    refl,
   )
 
   pub mount_memory : (line : ScriptLine) → (new ≡ old) ⊎ IsUnmounted old new → RunsLine old new entries entries line ended.Memory
-  mount_memory line (inl same) = (0, stood (state_in old) (state_in new) entries (ap (λ (s : Session). (state_in s).known.constants) same) (ap (λ (s : Session). (state_in s).known.state) same))
+  mount_memory line (inl same) = (stood (state_in old) (state_in new) entries (ap (λ (s : Session). (state_in s).known.constants) same) (ap (λ (s : Session). (state_in s).known.state) same), refl)
   mount_memory line (inr is) = (
-    0,
     went_silent (state_in old) (state_in new) entries is.constants (none_of (state_in new).known.state (tells_state new.hash_bits new.store new.chips ∙ is.not_mounted)),
+    refl,
   )
 
-  pub call_done : (later : List Entry) (who : ℕ) (call : Call) → HasGoneOn session_rules (seen_in old entries) (seen_in new later) ((who, call) ∷ [])
-      → RunsLine old new entries later (record { who = who; act = Do call }) ended.Whole
-  call_done later who call gone = (of_calls (seen_in old entries) (seen_in new later) ((who, call) ∷ []) gone, λ told. gone.keeps.tells_state ∙ told)
+  module _ (who : ℕ) (asked : Call) where
+    gone_on : (reply : Reply) → (reply ≢ Refused error.Memory) → Performs session_rules (state_in old) (state_in new) who asked (Ok reply)
+        → HasGoneOn session_rules (seen_in old entries) (seen_in new (entries ++ next_entry entries who asked reply ∷ [])) ((who, asked) ∷ [])
+    gone_on reply other does = performed session_rules (seen_in old entries) (state_in old) (state_in new) entries [] who asked reply other
+        (begun session_rules (state_in old) entries) does
 
-  pub call_memory : (later : List Entry) (who : ℕ) (call : Call) → (n : ℕ) × HasGoneOn session_rules (seen_in old entries) (seen_in new later) (take n ((who, call) ∷ []))
-      → RunsLine old new entries later (record { who = who; act = Do call }) ended.Memory
-  call_memory later who call gone = (gone.0, of_calls (seen_in old entries) (seen_in new later) (take gone.0 ((who, call) ∷ [])) gone.1)
+    call_logs : (reply : Reply) → (reply ≢ Refused error.Memory) → Performs session_rules (state_in old) (state_in new) who asked (Ok reply)
+        → LogGoesOn (state_in old) (state_in new) (next_entry entries who asked reply ∷ [])
+    call_logs reply other does = log_called (state_in old) (state_in new) who reply (next_entry entries who asked reply) refl does
+        (λ before told after later.
+        let gone = performed session_rules (seen_in old []) (state_in old) (state_in new) [] [] who asked reply other (begun session_rules (state_in old) []) does in
+        one_run (session_rules (state_in old).known.constants) before after (next_entry [] who asked reply)
+        (subst (λ (l : List Entry). Runs (session_rules (state_in old).known.constants) before l after) (sym gone.entries) (gone.runs before told after later)))
+
+    pub call_done : (reply : Reply) → (reply ≢ Refused error.Memory) → Performs session_rules (state_in old) (state_in new) who asked (Ok reply)
+        → RunsLine old new entries (entries ++ next_entry entries who asked reply ∷ []) (record { who = who; act = Do asked }) ended.Whole
+    call_done reply other does =
+        let gone = gone_on reply other does in (
+          of_calls (seen_in old entries) (seen_in new (entries ++ next_entry entries who asked reply ∷ [])) ((who, asked) ∷ []) gone,
+          (λ told. gone.keeps.tells_state ∙ told),
+          (λ power has.
+              let shows = call_shows (state_in old) (state_in new) who power has asked reply other does in
+              (next_entry entries who asked reply ∷ [], after_call power asked reply, refl, (shows.0, refl), shows.1)),
+          (next_entry entries who asked reply ∷ [], refl, call_logs reply other does),
+        )
+
+    pub call_memory : (none : NoMemory) → Performs session_rules (state_in old) (state_in new) who asked (Err none)
+        → RunsLine old new entries entries (record { who = who; act = Do asked }) ended.Memory
+    call_memory none does = (
+      of_calls (seen_in old entries) (seen_in new entries) []
+          (unperformed session_rules (seen_in old entries) (state_in old) (state_in new) entries [] who asked none (begun session_rules (state_in old) entries) does),
+      refl,
+    )
 
   pub cut_armed : (pattern : Pattern) (result : Result Unit NoMemory) (who : ℕ) (side : Side) (n : ℕ) → Arms (state_in old) (state_in new) pattern result
       → RunsLine old new entries entries (record { who = who; act = Cut side n pattern }) ended.Whole
-  cut_armed pattern result who side n arms = (stood (state_in old) (state_in new) entries arms.constants arms.state, λ told. ap is_some arms.state ∙ told)
+  cut_armed pattern result who side n arms = (
+    stood (state_in old) (state_in new) entries arms.constants arms.state,
+    (λ told. ap is_some arms.state ∙ told),
+    (λ power has. ([], after_cut power, sym (append-nil entries), refl, arm_shows (state_in old) (state_in new) who power has pattern result arms)),
+    ([], sym (append-nil entries), log_stood (state_in old) (state_in new) arms.state arms.log),
+  )
 
   pub cut_memory : (pattern : Pattern) (result : Result Unit NoMemory) (line : ScriptLine) → Arms (state_in old) (state_in new) pattern result
       → RunsLine old new entries entries line ended.Memory
-  cut_memory pattern result line arms = (0, stood (state_in old) (state_in new) entries arms.constants arms.state)
+  cut_memory pattern result line arms = (stood (state_in old) (state_in new) entries arms.constants arms.state, refl)
 
 -- ---- the whole replay
 
-take_none : (n : ℕ) → take {A = Line} n [] ≡ []
-take_none zero = refl
-take_none (suc n) = refl
+-- the replies so far show what became of the power
+abbrev pub ShowsSoFar : Session → Session → List ScriptLine → List Entry → Type 0
+ShowsSoFar first mid lines entries = (power : Power) → HasPower (state_in first) power
+    → (now : Power) × Shows power (acts_of lines) entries now × HasPower (state_in mid) now
 
-module _ (first mid last : Session) (lines : List ScriptLine) (at : ℕ) (line : ScriptLine) (within : at < length lines) (next : take (at + 1) lines ≡ take at lines ++ line ∷ [])
+shown_whole : (first mid : Session) (lines : List ScriptLine) (entries : List Entry) → ShowsSoFar first mid lines entries → (power : Power) → HasPower (state_in first) power
+    → ShowsCuts power lines entries
+shown_whole first mid lines entries shows power has =
+    let all = shows power has in
+    subst (λ (l : List ScriptLine). ShowsCuts power l entries) (append-nil lines) (shows_cuts power all.0 lines [] entries all.1)
+
+-- what was shown of the first lines is shown of all
+shown_first : (first mid : Session) (lines : List ScriptLine) (at : ℕ) (entries : List Entry) → ShowsSoFar first mid (take at lines) entries → (power : Power) → HasPower (state_in first) power
+    → ShowsCuts power lines entries
+shown_first first mid lines at entries shows power has =
+    let all = shows power has in
+    subst (λ (l : List ScriptLine). ShowsCuts power l entries) (take-append-drop at lines) (shows_cuts power all.0 (take at lines) (drop at lines) entries all.1)
+
+module _ (first mid last : Session) (lines : List ScriptLine) (at : ℕ) (line : ScriptLine) (within : at < length lines) (next_lines : take (at + 1) lines ≡ take at lines ++ line ∷ [])
     (entries later : List Entry) (still : StillTells first mid)
     (ran : HasReplayed (seen_in first []) (seen_in mid entries) (calls_of (take at lines))) where
   -- one line more
   more_calls : calls_of (take (at + 1) lines) ≡ calls_of (take at lines) ++ call_of line.who line.act
-  more_calls = ap calls_of next ∙ flat_map-append (λ (l : ScriptLine). call_of l.who l.act) (take at lines) (line ∷ [])
+  more_calls = ap calls_of next_lines ∙ flat_map-append (λ (l : ScriptLine). call_of l.who l.act) (take at lines) (line ∷ [])
       ∙ ap (λ (l : List Line). calls_of (take at lines) ++ l) (append-nil (call_of line.who line.act))
 
   pub one_line : HasReplayed (seen_in mid entries) (seen_in last later) (call_of line.who line.act) → HasReplayed (seen_in first []) (seen_in last later) (calls_of (take (at + 1) lines))
@@ -181,54 +287,78 @@ module _ (first mid last : Session) (lines : List ScriptLine) (at : ℕ) (line :
   no_line then_ran = subst (HasReplayed (seen_in first []) (seen_in last later)) (append-nil (calls_of (take at lines)))
       (joined (seen_in first []) (seen_in mid entries) (seen_in last later) (calls_of (take at lines)) [] still ran then_ran)
 
-  -- a part of the next line
-  part_of_line : (act : Act) → act ≡ line.act → (n : ℕ) → HasReplayed (seen_in mid entries) (seen_in last later) (take n (call_of line.who act))
-      → (m : ℕ) × HasReplayed (seen_in first []) (seen_in last later) (calls_of (take m lines))
-  part_of_line act is zero then_ran = (at, no_line then_ran)
-  part_of_line (Do call) is (suc n) then_ran = (
-    at + 1,
-    one_line (subst (λ (a : Act). HasReplayed (seen_in mid entries) (seen_in last later) (call_of line.who a)) is
-        (subst (λ (l : List Line). HasReplayed (seen_in mid entries) (seen_in last later) ((line.who, call) ∷ l)) (take_none n) then_ran)),
-  )
-  part_of_line (Cut side k pattern) is (suc n) then_ran = (at, no_line (subst (HasReplayed (seen_in mid entries) (seen_in last later)) (take_none (suc n)) then_ran))
+  pub more_shown : ShowsAct mid last entries later line.act → ShowsSoFar first mid (take at lines) entries → ShowsSoFar first last (take (at + 1) lines) later
+  more_shown shows so_far power has =
+      let front = so_far power has in
+      let next = shows front.0 front.2 in
+      let acts : acts_of (take (at + 1) lines) ≡ acts_of (take at lines) ++ line.act ∷ [] =
+      ap acts_of next_lines ∙ map-append (λ (l : ScriptLine). l.act) (take at lines) (line ∷ []) in
+      let joined_shows = shows_joined power front.0 next.1 (acts_of (take at lines)) (line.act ∷ []) entries next.0 front.1 next.3 in
+      let here : Shows power (acts_of (take (at + 1) lines)) (entries ++ next.0) next.1 =
+      subst (λ (a : List Act). Shows power a (entries ++ next.0) next.1) (sym acts) joined_shows in
+      (next.1, subst (λ (l : List Entry). Shows power (acts_of (take (at + 1) lines)) l next.1) (sym next.2) here, next.4)
+
+  pub more_logged : LogsAct mid last entries later → LogGoesOn (state_in first) (state_in mid) entries → LogGoesOn (state_in first) (state_in last) later
+  more_logged logs so_far = subst (LogGoesOn (state_in first) (state_in last)) (sym logs.1)
+      (log_joined (state_in first) (state_in mid) (state_in last) entries logs.0 ran.constants so_far logs.2)
 
   -- the line at which the replay ends
-  pub ends_at : (journal : JournalState) → journal.entries ≡ later → (e : Ended) → e ≢ ended.Whole → RunsLine mid last entries later line e
+  pub ends_at : (journal : JournalState) → journal.entries ≡ later → ShowsSoFar first mid (take at lines) entries → (e : Ended) → e ≢ ended.Whole → RunsLine mid last entries later line e
       → Replays first last lines (record { journal = journal; ended = e })
-  ends_at journal is ended.Whole not_whole runs = absurd (not_whole refl)
-  ends_at journal is (ended.Chance side place) not_whole runs =
+  ends_at journal is shows ended.Whole not_whole runs = absurd (not_whole refl)
+  ends_at journal is shows (ended.Chance side place) not_whole runs =
       let all : HasReplayed (seen_in first []) (seen_in last journal.entries) (calls_of (take at lines)) =
       subst (λ (l : List Entry). HasReplayed (seen_in first []) (seen_in last l) (calls_of (take at lines))) (sym is) (no_line runs.0) in
       record {
         constants = all.constants;
+        areas = same_areas first last all.constants;
         legal = legal (state_in first) (state_in last) journal.entries (calls_of (take at lines)) all;
         in_order = (
           take at lines,
-          record { line = line; is_mount = runs.2; behind = subst (λ (n : ℕ). take (n + 1) lines ≡ take at lines ++ line ∷ []) (sym (length-take-le at lines (omega (arith, within)))) next },
+          record { line = line; is_mount = runs.3; behind = subst (λ (n : ℕ). take (n + 1) lines ≡ take at lines ++ line ∷ []) (sym (length-take-le at lines (omega (arith, within)))) next_lines },
           in_order (state_in first) (state_in last) journal.entries (calls_of (take at lines)) all,
         );
-        chance = runs.1;
+        chance = runs.2;
+        tells = λ told. runs.1 (still told);
+        cuts = λ power has. subst (ShowsCuts power lines) (sym (is ∙ runs.4)) (shown_first first mid lines at entries shows power has);
+        grows = λ whole. absurd (not_whole whole);
       }
-  ends_at journal is ended.Memory not_whole runs =
-      let part = part_of_line line.act refl runs.0 runs.1 in
-      let all : HasReplayed (seen_in first []) (seen_in last journal.entries) (calls_of (take part.0 lines)) =
-      subst (λ (l : List Entry). HasReplayed (seen_in first []) (seen_in last l) (calls_of (take part.0 lines))) (sym is) part.1 in
+  ends_at journal is shows ended.Memory not_whole runs =
+      let all : HasReplayed (seen_in first []) (seen_in last journal.entries) (calls_of (take at lines)) =
+      subst (λ (l : List Entry). HasReplayed (seen_in first []) (seen_in last l) (calls_of (take at lines))) (sym is) (no_line runs.0) in
       record {
         constants = all.constants;
-        legal = legal (state_in first) (state_in last) journal.entries (calls_of (take part.0 lines)) all;
-        in_order = (part.0, in_order (state_in first) (state_in last) journal.entries (calls_of (take part.0 lines)) all);
+        areas = same_areas first last all.constants;
+        legal = legal (state_in first) (state_in last) journal.entries (calls_of (take at lines)) all;
+        in_order = (at, in_order (state_in first) (state_in last) journal.entries (calls_of (take at lines)) all);
         chance = tt;
+        tells = tt;
+        cuts = λ power has. subst (ShowsCuts power lines) (sym (is ∙ runs.1)) (shown_first first mid lines at entries shows power has);
+        grows = λ whole. absurd (not_whole whole);
       }
 
 -- all lines were run
 pub ends_whole : (first last : Session) (lines : List ScriptLine) (journal : JournalState) → HasReplayed (seen_in first []) (seen_in last journal.entries) (calls_of lines)
-    → Replays first last lines (record { journal = journal; ended = ended.Whole })
-ends_whole first last lines journal all = record {
+    → StillTells first last → ShowsSoFar first last lines journal.entries → LogGoesOn (state_in first) (state_in last) journal.entries → Replays first last lines (record { journal = journal; ended = ended.Whole })
+ends_whole first last lines journal all still shows logs = record {
   constants = all.constants;
+  areas = same_areas first last all.constants;
   legal = legal (state_in first) (state_in last) journal.entries (calls_of lines) all;
   in_order = in_order (state_in first) (state_in last) journal.entries (calls_of lines) all;
   chance = tt;
+  tells = still;
+  cuts = shown_whole first last lines journal.entries shows;
+  grows = λ whole power uncut.
+      let shown = shown_whole first last lines journal.entries shows Steady power in
+      log_grows (state_in first) (state_in last) journal.entries power shown.ordinary (shown.uncut refl uncut) logs
+      (primary_in last) (told_log last.hash_bits last.store last.chips);
 }
+
+pub none_shown : (first : Session) (entries : List Entry) → entries ≡ [] → ShowsSoFar first first [] entries
+none_shown first entries none power has = (power, subst (λ (l : List Entry). Shows power [] l power) (sym none) refl, has)
+
+pub none_logged : (first : Session) (entries : List Entry) → entries ≡ [] → LogGoesOn (state_in first) (state_in first) entries
+none_logged first entries none = subst (LogGoesOn (state_in first) (state_in first)) (sym none) (log_stood (state_in first) (state_in first) refl refl)
 
 pub nothing_yet : (first : Session) (entries : List Entry) → entries ≡ [] → HasReplayed (seen_in first []) (seen_in first entries) []
 nothing_yet first entries none = subst (λ (l : List Entry). HasReplayed (seen_in first []) (seen_in first l) []) (sym none) (stood (state_in first) (state_in first) [] refl refl)
@@ -249,4 +379,4 @@ pub with_entries : (old new : Session) (entries first later : List Entry) (line 
 with_entries old new entries first later line e is runs = subst (λ (l : List Entry). RunsLine old new entries l line e) (sym is) runs
 
 pub nothing_done : (s : Session) (entries later : List Entry) (line : ScriptLine) → later ≡ entries → RunsLine s s entries later line ended.Memory
-nothing_done s entries later line is = with_entries s s entries entries later line ended.Memory is (0, stood (state_in s) (state_in s) entries refl refl)
+nothing_done s entries later line is = with_entries s s entries entries later line ended.Memory is (stood (state_in s) (state_in s) entries refl refl, refl)

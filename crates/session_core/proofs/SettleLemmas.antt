@@ -1,9 +1,8 @@
 -- A session that was not mounted again.
-use Rattle.std.proofs.Common.{◌≡◌, ℕ, false, sym, ◌∙◌, ap, subst}
-use Rattle.std.specs.Prelude.{Option, Some, None, is_some}
+use Rattle.std.proofs.Common.{◌≡◌, ℕ, sym, ◌∙◌, ap, subst}
+use Rattle.std.specs.Prelude.{Some, None, is_some}
 use Rattle.flash_core.specs.declared.geometry.Geometry.{Geometry}
 use Rattle.flash_core.specs.Sizes.{area_size}
-use Rattle.flash_sim.specs.ChipState.{ChipState}
 use Rattle.kv_model.specs.Constants.{Constants}
 use Rattle.kv_model.specs.Sizes.{room_of}
 use Rattle.session_core.specs.declared.backing.Chips.{Chips}

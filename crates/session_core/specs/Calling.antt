@@ -1,5 +1,5 @@
 -- What a call of a session does beside what a call of each store does.
-use Rattle.std.specs.Prelude.{◌≡◌, false, Result, Ok, Err}
+use Rattle.std.specs.Prelude.{◌≡◌, false, Result, Err}
 use Rattle.kv_model.specs.declared.error.KvError.{KvError}
 use Rattle.kv_model.specs.declared.error.KvError.TheVariants.{Stopped}
 use Rattle.kv_model.specs.Kv.{Answered, Answers}

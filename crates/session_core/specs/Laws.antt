@@ -1,8 +1,8 @@
 -- That what a session tells is lawful.
-use Rattle.std.specs.Prelude.{◌≡◌, ℕ, Bool, true, false, not, ◌&&◌, IsTrue, Option, Some, None, is_some}
+use Rattle.std.specs.Prelude.{◌≡◌, ℕ, Bool, true, false, not, ◌&&◌, Option, Some, None, is_some}
 use Rattle.std.proofs.Common.{ap, refl}
 use mathlib.Core.Bool.{false≢true}
-use Rattle.flash_sim.specs.ChipState.{ChipState, device_of, is_steady}
+use Rattle.flash_sim.specs.ChipState.{ChipState, is_steady}
 use Rattle.flash_sim.specs.Laws.{chip_is_lawful}
 use Rattle.flash_sim.specs.Views.{view_of}
 use Rattle.kv_model.specs.Kv.{IsLawful}

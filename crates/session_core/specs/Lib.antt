@@ -1,8 +1,10 @@
 pub mod Backing
 pub mod Calling
 pub mod Chips
+pub mod Growing
 pub mod Laws
 pub mod Mounting
+pub mod Power
 pub mod Replaying
 pub mod Search
 pub mod Settling

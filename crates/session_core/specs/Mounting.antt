@@ -1,11 +1,12 @@
 -- What mounting the chips of a session leaves.
 use Rattle.std.specs.Prelude.{◌≡◌, ℕ, true, [], ◌∷◌}
 use Rattle.std.specs.Option.{ForSome}
+use Rattle.flash_core.specs.Runs.{Done}
 use Rattle.flash_sim.specs.ChipState.{ChipState, device_of}
 use Rattle.kv_model.specs.Kv.{KvState}
 use Rattle.kv_model.specs.Rules.{Mounts as MountsTo}
 use Rattle.plain_store.specs.Mounting.{IsFresh}
-use Rattle.tdb_mount.specs.Format.{MountsAlike}
+use Rattle.tdb_mount.specs.Format.{Leaves, MountsAlike}
 use Rattle.session_core.specs.Backing.{session_rules}
 
 -- The chip has power on, and its image mounts to the map to which it did.
@@ -17,6 +18,8 @@ pub record HasKept (old new : ChipState) : Type 0 where
 -- The chip was mounted so: this is what is told of it then.
 pub record HasMounted (old new : ChipState) (hash_bits : ℕ) (s : KvState) : Type 0 where
   pub kept : HasKept old new
+  -- all of its image stands where some area of it is valid, and it was formatted else
+  pub leaves : Leaves old.geometry old.image new.image Done
   pub fresh : IsFresh (device_of old) hash_bits s
   pub labels : s.known.labels ≡ [] ∷ []
   pub sound : s.known.sound ≡ true

@@ -1,12 +1,12 @@
 -- What a replay of a script's lines does to a session and its journal.
-use Rattle.std.specs.Prelude.{◌≡◌, ℕ, ◌+◌, true, List, [], ◌∷◌, ◌++◌, length, take, is_some, Option, Some, None}
+use Rattle.std.specs.Prelude.{◌≡◌, ℕ, ◌+◌, true, List, [], ◌∷◌, ◌++◌, length, take, is_some, Some}
 use Rattle.std.specs.Option.{ForSome}
 use Rattle.kv_model.specs.declared.call.Call.TheVariants.{Mount}
 use Rattle.kv_model.specs.declared.call.Entry.{Entry}
 use Rattle.kv_model.specs.History.{AreNumbered, IsLegal, Runs}
-use Rattle.kv_model.specs.Kv.{KvState}
 use Rattle.kv_model.specs.Orders.{Line, lines_of}
 use Rattle.kv_memory.specs.Going.{Seen, seen}
+use Rattle.script_core.specs.declared.line.Act.{Act}
 use Rattle.script_core.specs.declared.line.Act.TheVariants.{Do}
 use Rattle.script_core.specs.declared.line.Line.{Line as ScriptLine}
 use Rattle.script_core.specs.LineOrder.{InOrder, call_of}
@@ -15,8 +15,11 @@ use Rattle.session_core.specs.declared.ended.Ended.TheVariants as ended
 use Rattle.session_core.specs.declared.replay.Outcome.{Outcome}
 use Rattle.session_core.specs.declared.session.Session.{Session}
 use Rattle.session_core.specs.Backing.{session_rules}
+use Rattle.session_core.specs.Chips.{HasSameAreas}
+use Rattle.session_core.specs.Growing.{GrowsBy, LogGoesOn}
+use Rattle.session_core.specs.Power.{HasPower, Power, Steady, Shows, ShowsCuts, acts_of, cuts_in}
 use Rattle.session_core.specs.Settling.{IsSessionChance}
-use Rattle.session_core.specs.Views.{state_in}
+use Rattle.session_core.specs.Views.{primary_in, state_in}
 
 -- The journal has these lines more, mounts among them, with their replies. Where the state is told before and behind
 -- them, they lead from the one to the other by the session's rules.
@@ -36,14 +39,26 @@ seen_in session entries = seen (state_in session) entries
 abbrev pub StillTells : Session → Session → Type 0
 StillTells old new = is_some (state_in old).known.state ≡ true → is_some (state_in new).known.state ≡ true
 
--- What a line does that ended so: all of it, or a mount that found a record by chance, or no more than a part of it.
+-- The replies of an act show what becomes of the power.
+abbrev pub ShowsAct : Session → Session → List Entry → List Entry → Act → Type 0
+ShowsAct old new entries later act = (power : Power) → HasPower (state_in old) power
+    → (more : List Entry) × (after : Power) × (later ≡ entries ++ more) × Shows power (act ∷ []) more after × HasPower (state_in new) after
+
+-- The log goes on by the entries of an act.
+abbrev pub LogsAct : Session → Session → List Entry → List Entry → Type 0
+LogsAct old new entries later = (more : List Entry) × (later ≡ entries ++ more) × LogGoesOn (state_in old) (state_in new) more
+
+-- What a line does that ended so: all of it, or no more than a mount that found a record by chance, or than what stands
+-- where there was no memory.
 abbrev pub RunsLine : Session → Session → List Entry → List Entry → ScriptLine → Ended → Type 0
 RunsLine old new entries later line ended.Whole =
-    HasReplayed (seen_in old entries) (seen_in new later) (call_of line.who line.act) × StillTells old new
+    HasReplayed (seen_in old entries) (seen_in new later) (call_of line.who line.act) × StillTells old new × ShowsAct old new entries later line.act
+    × LogsAct old new entries later
 RunsLine old new entries later line (ended.Chance side place) =
-    HasReplayed (seen_in old entries) (seen_in new later) [] × IsSessionChance new (Some (side, place)) × (line.act ≡ Do Mount)
+    HasReplayed (seen_in old entries) (seen_in new later) [] × StillTells old new × IsSessionChance new (Some (side, place))
+    × (line.act ≡ Do Mount) × (later ≡ entries)
 RunsLine old new entries later line ended.Memory =
-    (n : ℕ) × HasReplayed (seen_in old entries) (seen_in new later) (take n (call_of line.who line.act))
+    HasReplayed (seen_in old entries) (seen_in new later) [] × (later ≡ entries)
 
 -- these lines begin so, with a mount behind
 pub record IsMountBehind (lines before : List ScriptLine) : Type 0 where
@@ -62,10 +77,21 @@ abbrev pub IsStoppedAt : Ended → Session → Type 0
 IsStoppedAt (ended.Chance side place) session = IsSessionChance session (Some (side, place))
 IsStoppedAt ended session = Unit {0}
 
+-- a replay that ended for no want of memory leaves a session that tells its state
+abbrev pub TellsAt : Ended → Session → Session → Type 0
+TellsAt ended.Memory old new = Unit {0}
+TellsAt ended old new = StillTells old new
+
 -- What a replay of these lines gives.
 pub record Replays (old new : Session) (lines : List ScriptLine) (outcome : Outcome) : Type 0 where
   pub constants : (state_in new).known.constants ≡ (state_in old).known.constants
+  pub areas : HasSameAreas (primary_in old).geometry (primary_in new).geometry
   pub legal : ForSome (state_in old).known.state (λ before. ForSome (state_in new).known.state (λ after.
       IsLegal (session_rules (state_in old).known.constants) before outcome.journal.entries after))
   pub in_order : IsInOrderTo outcome.ended outcome.journal.entries lines
   pub chance : IsStoppedAt outcome.ended new
+  pub tells : TellsAt outcome.ended old new
+  pub cuts : (power : Power) → HasPower (state_in old) power → ShowsCuts power lines outcome.journal.entries
+  -- of a session with power, whose power is not cut
+  pub grows : outcome.ended ≡ ended.Whole → HasPower (state_in old) Steady → cuts_in (acts_of lines) ≡ 0
+      → GrowsBy (state_in old) (primary_in new) (state_in new) outcome.journal.entries

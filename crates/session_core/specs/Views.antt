@@ -1,5 +1,5 @@
 -- What contracts see of a session.
-use Rattle.std.specs.Prelude.{ℕ, Bool, is_some}
+use Rattle.std.specs.Prelude.{Bool, is_some}
 use Rattle.flash_sim.specs.ChipState.{ChipState}
 use Rattle.kv_model.specs.Kv.{KvState}
 use Rattle.session_core.specs.declared.session.Session.{Session}

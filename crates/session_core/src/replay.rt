@@ -1,14 +1,14 @@
 // The lines of a script, run on a session in their order.
-ghost use Rattle.std.specs.Prelude.{◌≡◌, ◌≢◌, ◌∷◌, ◌<◌, [], false, true, All, IfOk, length};
+ghost use Rattle.std.specs.Prelude.{◌≡◌, ◌≢◌, ◌<◌, false, true, All, IfOk, OnOk, OnErr, length};
 ghost use Rattle.script_core.specs.Grammar.{CutsNoRollback, IsLine};
 ghost use Rattle.script_core.specs.declared.line.Act.TheVariants.{Do};
 ghost use Rattle.script_core.specs.declared.line.Line.{Line};
+ghost use Rattle.session_core.specs.declared.ended.Ended.TheVariants as ended;
 ghost use Rattle.session_core.specs.Replaying.{Replays, RunsLine};
 
 use crate::{Ended, Session};
 use journal_core::Journal;
-use kv_memory::run_calls;
-use kv_model::{Call, NoMemory, Reply};
+use kv_model::{Call, NoMemory, Reply, perform};
 use script_core::{Act, Line, Script};
 use std::alloc::Global;
 
@@ -54,16 +54,39 @@ impl Session {
     }
 
     // Makes a call of a client, which is no mount, and notes it with its reply.
+    fn note_call(
+        &mut self,
+        alloc: Global,
+        journal: &mut Journal,
+        who: u8,
+        call: &Call,
+    ) -> Result<(), NoMemory>
+        requires numbers { length journal.old.entries < 4294967295 }
+        requires no_mount { call.now ≢ Call.Mount }
+        ensures done { OnOk result (RunsLine self.old self.new journal.old.entries
+            journal.new.entries (record { who = who; act = Do call.now }) ended.Whole) }
+        ensures none { OnErr result (RunsLine self.old self.new journal.old.entries
+            journal.new.entries (record { who = who; act = Do call.now }) ended.Memory) }
+    {
+        journal.reserve()?;
+        let noted = copy_of(call)?;
+        match perform(alloc, self, who, call) {
+            Ok(reply) => {
+                journal.append(who, noted, reply);
+                Ok(())
+            }
+            Err(none) => Err(none),
+        }
+    }
+
+    // The same, as a line of a script.
     fn run_call(&mut self, alloc: Global, journal: &mut Journal, who: u8, call: &Call) -> Ended
         requires numbers { length journal.old.entries < 4294967295 }
         requires no_mount { call.now ≢ Call.Mount }
         ensures { RunsLine self.old self.new journal.old.entries journal.new.entries
             (record { who = who; act = Do call.now }) result }
     {
-        let Ok(copy) = copy_of(call) else {
-            return Ended::Memory;
-        };
-        match run_calls(alloc, self, &[(who, copy)], journal) {
+        match self.note_call(alloc, journal, who, call) {
             Ok(()) => Ended::Whole,
             Err(NoMemory) => Ended::Memory,
         }
@@ -96,7 +119,8 @@ impl Session {
     /// the session, on a store that runs too, and is noted as a call of client 0 with the reply
     /// `Done`; a line `0 cut` arms a chip and is not noted. Where a record is there by chance at a
     /// mount the replay ends there, and so it does for want of memory. A plain session is given no
-    /// cut of the rollback chip.
+    /// cut of the rollback chip. Where no cut is armed, a log that wants no collection grows by the
+    /// records of these calls and stays in its area.
     pub fn replay(&mut self, alloc: Global, script: &Script) -> Outcome
         requires { All (λ (line : Line). CutsNoRollback line.act) script.now }
         ensures { Replays self.old self.new script.now result }

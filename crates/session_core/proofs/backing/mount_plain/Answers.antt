@@ -1,5 +1,4 @@
-use Rattle.std.proofs.Common.{◌≡◌, ◌∙◌, sym, subst}
-use Rattle.flash_core.specs.Sizes.{IsValid}
+use Rattle.std.proofs.Common.{subst}
 use Rattle.flash_sim.specs.ChipState.{ChipState, device_of}
 use Rattle.flash_sim.specs.Views.{view_of}
 use Rattle.tdb_read.specs.Mounting.{IsMounted, IsUnmounted}

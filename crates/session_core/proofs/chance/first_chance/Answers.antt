@@ -1,5 +1,5 @@
-use Rattle.std.proofs.Common.{◌≡◌, ℕ, ◌*◌, List, sym, ◌∙◌, ap, subst}
-use Rattle.std.specs.Prelude.{None, Some}
+use Rattle.std.proofs.Common.{◌≡◌, ◌*◌, ◌∙◌, ap, subst}
+use Rattle.std.specs.Prelude.{None}
 use Rattle.flash_core.specs.declared.geometry.Geometry.{Geometry}
 use Rattle.flash_core.specs.Sizes.{area_size}
 use Rattle.area_log.specs.declared.area.Area.{Area}

@@ -1,4 +1,4 @@
-use Rattle.std.proofs.Common.{◌≡◌, ◌∙◌, ap, false, rules}
+use Rattle.std.proofs.Common.{◌≡◌, false, rules}
 use Rattle.std.specs.Prelude.{is_none}
 use Rattle.session_core.proofs.SearchLemmas.{master_looked}
 use Rattle.session_core.proofs.chance.look_at_master.Goals as goal

@@ -1,4 +1,4 @@
-use Rattle.std.proofs.Common.{◌≡◌, ◌-◌}
+use Rattle.std.proofs.Common.{◌-◌}
 use Rattle.flash_core.specs.Calls.{OnlyReads}
 use Rattle.area_log.specs.Areas.{end_of, first_place, IsEnd}
 use Rattle.session_core.proofs.SearchLemmas.{Looked}

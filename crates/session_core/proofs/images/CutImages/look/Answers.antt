@@ -1,6 +1,5 @@
-use Rattle.std.proofs.Common.{◌≡◌, ◌⊎◌, ℕ, Bool, true, false, List, [], ◌∷◌, inl, inr, ⊎_elim, subst, rules}
+use Rattle.std.proofs.Common.{◌≡◌, ℕ, true, false, List, [], ◌∷◌, inl, inr, ⊎_elim, subst, rules}
 use Rattle.std.specs.Prelude.{None, Some, is_some}
-use Rattle.record_core.specs.Chance.{StandsInOne}
 use Rattle.record_core.specs.Mounts.{StandsIn}
 use Rattle.session_core.specs.Search.{GoesOn}
 use Rattle.session_core.proofs.SearchLemmas.{one_breaks, one_stands, stays_first}

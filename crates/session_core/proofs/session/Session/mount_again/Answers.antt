@@ -1,4 +1,4 @@
-use Rattle.std.proofs.Common.{◌≡◌, ◌∙◌, sym, subst, refl, rules, inr}
+use Rattle.std.proofs.Common.{◌≡◌, subst, refl, rules, inr}
 use Rattle.std.specs.Prelude.{None}
 use Rattle.flash_sim.specs.ChipState.{ChipState}
 use Rattle.session_core.specs.Backing.{chip_behind, chip_in, told_by}
