@@ -1,6 +1,6 @@
 mod GeometryLemmas
 mod ItemLemmas
-mod MeaningLemmas
+pub mod MeaningLemmas
 mod NumberLemmas
 mod SplitLemmas
 mod ValueLemmas

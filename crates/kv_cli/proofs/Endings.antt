@@ -1,42 +1,32 @@
--- How a replay can end, and that of its ends one alone fits the words and the files.
-use Rattle.std.proofs.Common.{◌≡◌, ◌≢◌, ℕ, ◌⊎◌, inl, inr, List, [], ◌∷◌, ◌++◌, length, refl, sym, subst, ap, ◌∙◌, arith}
-use Rattle.std.specs.Prelude.{Option, Some, None, All, IfSome}
-use Rattle.std.proofs.lemmas.List.Elements.{All-head, All-tail}
+-- How the work can end, and that of its ends one alone fits the words and the files.
+use Rattle.std.proofs.Common.{◌≡◌, ◌≢◌, ℕ, ◌⊎◌, inl, inr, List, [], length, refl, sym, subst, ap, ◌∙◌, arith}
+use Rattle.std.specs.Prelude.{Option, Some, None, IfSome}
+use Rattle.flash_core.specs.Sizes.{size_of}
 use Rattle.kv_host.specs.Contents.{HostContents, file_at, with_file, with_printed}
-use Rattle.journal_core.specs.Texts.{text_of}
 use Rattle.kv_model.specs.declared.call.Entry.{Entry}
 use Rattle.script_core.specs.declared.line.Line.{Line}
-use Rattle.script_core.proofs.Texts.{read_text-script, read_text-bad, read_text-full, one_script}
+use Rattle.script_core.specs.Grammar.{IsScript}
+use Rattle.script_core.proofs.Texts.{read_text-script, read_text-bad, read_text-full}
 use Rattle.kv_cli.specs.declared.refusal.Refusal.{Refusal}
 use Rattle.kv_cli.specs.declared.refusal.Refusal.TheVariants as refusal
 use Rattle.kv_cli.specs.declared.stop.Stop.{Stop}
 use Rattle.kv_cli.specs.declared.stop.Stop.TheVariants as stop
-use Rattle.kv_cli.specs.Images.{IsErasedImage}
-use Rattle.kv_cli.specs.Words.{Names, names_of}
-use Rattle.kv_cli.specs.Inputs.{IsReadable, IsEarly, IsEarlyScript, IsBadLine, IsFirstUnbuilt, plain_replay, script_limit, image_limit, HasImage, GivesReplay}
-use Rattle.kv_cli.specs.Refusals.{words_line, IsRead, HasBadLine, HasSomeScript, LacksScript, LacksImage, LacksFile, Gives, name_of, limit_of, status_of, line_of, IsCause}
-use Rattle.kv_cli.specs.Outcomes.{Replays, PrintsLine, GivesLine, IsNothing, IsCutShort, IsUnlessHindered, IsReplayed, StopsFor, IsRefused, IsFinished, HasEnded}
+use Rattle.kv_cli.specs.Asked.{Asked, Asks, AsksNothing}
+use Rattle.kv_cli.specs.Inputs.{GivesReplay, HasImage, HasInputs, HasScript, IsBadLine, IsReadable, image_limit, plain_replay, script_limit}
+use Rattle.kv_cli.specs.Outcomes.{Around, GivesLine, HasEnded, HasEndedFor, IsByChance, IsCutShort, IsDone, IsFinished, IsNothing, IsPrinted, IsRefused, IsReplayed, IsReplayedUnlessHindered, IsStopped, IsUnlessHindered, Left, PrintsLine, Replays, StopsByChance, StopsFor, chance_text, ends_with}
+use Rattle.kv_cli.specs.Refusals.{Gives, HasBadLine, HasSomeScript, IsCause, IsRead, LacksFile, LacksImage, LacksScript, line_of, limit_of, name_of, status_of, words_line}
+use Rattle.kv_cli.specs.Replays.{text_by}
+use Rattle.kv_cli.proofs.AskedLemmas.{one_asked}
 
 -- ---- the causes exclude one another
 
-one_early : (early others : List Line) (read : Line) → All IsEarly (early ++ read ∷ others) → IsEarly read
-one_early [] others read each = All-head IsEarly read others each
-one_early (first ∷ early) others read each = one_early early others read (All-tail IsEarly first (early ++ read ∷ others) each)
-
-late_or_early : (text : List ℕ) (number : ℕ) (lines : List Line) → IsFirstUnbuilt text number → IsEarlyScript text lines → ⊥
-late_or_early text number lines late script =
-    let same = one_script plain_replay text lines (late.early ++ late.read ∷ late.others) script.script late.script in
-    let each = subst (All IsEarly) same script.early in
-    late.unbuilt (one_early late.early late.others late.read each)
-
-bad_or_script : (text : List ℕ) (number : ℕ) (lines : List Line) → IsBadLine text number → IsEarlyScript text lines → ⊥
+bad_or_script : (text : List ℕ) (number : ℕ) (lines : List Line) → IsBadLine text number → IsScript plain_replay text lines → ⊥
 bad_or_script text number lines (inl bad) script =
     let none = read_text-bad plain_replay text number bad in
-    let some = read_text-script plain_replay text lines script.script in absurd cc
-bad_or_script text number lines (inr (inl full)) script =
+    let some = read_text-script plain_replay text lines script in absurd cc
+bad_or_script text number lines (inr full) script =
     let none = read_text-full plain_replay text number full in
-    let some = read_text-script plain_replay text lines script.script in absurd cc
-bad_or_script text number lines (inr (inr late)) script = late_or_early text number lines late script
+    let some = read_text-script plain_replay text lines script in absurd cc
 
 one_text : (a b : List ℕ) (found : Option (List ℕ)) → found ≡ Some a → found ≡ Some b → a ≡ b
 one_text a b found h k = cc
@@ -45,26 +35,26 @@ one_text a b found h k = cc
 one_file : (limit : ℕ) (name : List ℕ) (contents : HostContents) (a b : List ℕ) → IsReadable limit name contents a → IsReadable limit name contents b → a ≡ b
 one_file limit name contents a b h k = one_text a b (file_at name contents) h.there k.there
 
-no_script : (names : Names) (contents : HostContents) (number : ℕ) → HasBadLine names contents number → HasSomeScript names contents → ⊥
-no_script names contents number bad (lines, script) =
-    let same = one_file script_limit names.script contents script.text bad.text script.readable bad.readable in
-    bad_or_script bad.text number lines bad.bad (subst (λ (text : List ℕ). IsEarlyScript text lines) same script.script)
+no_script : (asked : Asked) (contents : HostContents) (number : ℕ) → HasBadLine asked contents number → HasSomeScript asked contents → ⊥
+no_script asked contents number bad (lines, script) =
+    let same = one_file script_limit asked.names.script contents script.text bad.text script.readable bad.readable in
+    bad_or_script bad.text number lines bad.bad (subst (λ (text : List ℕ). IsScript plain_replay text lines) same script.script)
 
 -- what can't be read
-record IsUnread (names : Names) (contents : HostContents) : Type 0 where
+record IsUnread (asked : Asked) (contents : HostContents) : Type 0 where
   name : List ℕ
   limit : ℕ
-  is_read : IsRead names contents name limit
+  is_read : IsRead asked contents name limit
   unreadable : (bytes : List ℕ) → IsReadable limit name contents bytes → ⊥
 
-unread : (names : Names) (contents : HostContents) (line : List ℕ) → LacksFile names contents line → IsUnread names contents
-unread names contents line (inl (name, absent, is)) = record {
+unread : (asked : Asked) (contents : HostContents) (line : List ℕ) → LacksFile asked contents line → IsUnread asked contents
+unread asked contents line (inl (name, absent, is)) = record {
   name = name;
   limit = absent.limit;
   is_read = absent.is_read;
   unreadable = λ bytes readable. let none = absent.absent in let some = readable.there in absurd cc;
 }
-unread names contents line (inr (name, limit, over, is)) = record {
+unread asked contents line (inr (name, limit, over, is)) = record {
   name = name;
   limit = limit;
   is_read = over.is_read;
@@ -72,292 +62,340 @@ unread names contents line (inr (name, limit, over, is)) = record {
 }
 
 -- an image that can be read, behind a script
-record HasReadImage (names : Names) (contents : HostContents) : Type 0 where
-  script : HasSomeScript names contents
+record HasReadImage (asked : Asked) (contents : HostContents) : Type 0 where
+  script : HasSomeScript asked contents
   image : List ℕ
-  readable : IsReadable image_limit names.primary contents image
+  readable : IsReadable image_limit asked.names.primary contents image
 
-of_wrong : (names : Names) (contents : HostContents) (line : List ℕ) → LacksImage names contents line → HasReadImage names contents
-of_wrong names contents line (inl (size, wrong, is)) = record { script = wrong.script; image = wrong.image; readable = wrong.readable }
-of_wrong names contents line (inr (written, is)) = record { script = written.script; image = written.image; readable = written.readable }
+of_wrong : (asked : Asked) (contents : HostContents) (line : List ℕ) → LacksImage asked contents line → HasReadImage asked contents
+of_wrong asked contents line (size, wrong, is) = record { script = wrong.script; image = wrong.image; readable = wrong.readable }
 
--- a script and an erased image
-abbrev IsWhole : Names → HostContents → Type 0
-IsWhole names contents = HasSomeScript names contents × HasImage names.primary contents
+-- a script and an image of the right size
+abbrev IsWhole : Asked → HostContents → Type 0
+IsWhole asked contents = HasSomeScript asked contents × ((image : List ℕ) × HasImage asked contents image)
 
-of_whole : (names : Names) (contents : HostContents) → IsWhole names contents → HasReadImage names contents
-of_whole names contents whole = record { script = whole.0; image = whole.1.image; readable = whole.1.readable }
+of_whole : (asked : Asked) (contents : HostContents) → IsWhole asked contents → HasReadImage asked contents
+of_whole asked contents whole = record { script = whole.0; image = whole.1.0; readable = whole.1.1.readable }
 
-unread_script : (names : Names) (contents : HostContents) (text : List ℕ) → IsReadable script_limit names.script contents text → (HasSomeScript names contents → ⊥) → IsUnread names contents → ⊥
-unread_script names contents text readable none lacks = elim (lacks.is_read) [
-  | inl (name, limit) ↦ lacks.unreadable text (subst (λ (n : List ℕ). IsReadable lacks.limit n contents text) (sym name) (subst (λ (l : ℕ). IsReadable l names.script contents text) (sym limit) readable))
+unread_script : (asked : Asked) (contents : HostContents) (text : List ℕ) → IsReadable script_limit asked.names.script contents text → (HasSomeScript asked contents → ⊥) → IsUnread asked contents → ⊥
+unread_script asked contents text readable none lacks = elim (lacks.is_read) [
+  | inl (name, limit) ↦ lacks.unreadable text (subst (λ (n : List ℕ). IsReadable lacks.limit n contents text) (sym name) (subst (λ (l : ℕ). IsReadable l asked.names.script contents text) (sym limit) readable))
   | inr (script, name, limit) ↦ none script
 ]
 
-bad_or_unread : (names : Names) (contents : HostContents) (number : ℕ) → HasBadLine names contents number → IsUnread names contents → ⊥
-bad_or_unread names contents number bad = unread_script names contents bad.text bad.readable (no_script names contents number bad)
+bad_or_unread : (asked : Asked) (contents : HostContents) (number : ℕ) → HasBadLine asked contents number → IsUnread asked contents → ⊥
+bad_or_unread asked contents number bad = unread_script asked contents bad.text bad.readable (no_script asked contents number bad)
 
-image_or_unread : (names : Names) (contents : HostContents) → HasReadImage names contents → IsUnread names contents → ⊥
-image_or_unread names contents read lacks = elim (lacks.is_read) [
+image_or_unread : (asked : Asked) (contents : HostContents) → HasReadImage asked contents → IsUnread asked contents → ⊥
+image_or_unread asked contents read lacks = elim (lacks.is_read) [
   | inl (name, limit) ↦ let script = read.script.1 in
-      lacks.unreadable script.text (subst (λ (n : List ℕ). IsReadable lacks.limit n contents script.text) (sym name) (subst (λ (l : ℕ). IsReadable l names.script contents script.text) (sym limit) script.readable))
+      lacks.unreadable script.text (subst (λ (n : List ℕ). IsReadable lacks.limit n contents script.text) (sym name) (subst (λ (l : ℕ). IsReadable l asked.names.script contents script.text) (sym limit) script.readable))
   | inr (script, name, limit) ↦
-      lacks.unreadable read.image (subst (λ (n : List ℕ). IsReadable lacks.limit n contents read.image) (sym name) (subst (λ (l : ℕ). IsReadable l names.primary contents read.image) (sym limit) read.readable))
+      lacks.unreadable read.image (subst (λ (n : List ℕ). IsReadable lacks.limit n contents read.image) (sym name) (subst (λ (l : ℕ). IsReadable l asked.names.primary contents read.image) (sym limit) read.readable))
 ]
 
-image_or_whole : (names : Names) (contents : HostContents) (line : List ℕ) → LacksImage names contents line → IsWhole names contents → ⊥
-image_or_whole names contents line (inl (size, wrong, is)) whole =
-    let same = one_file image_limit names.primary contents wrong.image whole.1.image wrong.readable whole.1.readable in
-    wrong.wrong (sym wrong.size_is ∙ ap length same ∙ whole.1.erased.size)
-image_or_whole names contents line (inr (written, is)) whole =
-    let same = one_file image_limit names.primary contents whole.1.image written.image whole.1.readable written.readable in
-    written.written (subst IsErasedImage same whole.1.erased)
+image_or_whole : (asked : Asked) (contents : HostContents) (line : List ℕ) → LacksImage asked contents line → IsWhole asked contents → ⊥
+image_or_whole asked contents line (size, wrong, is) whole =
+    let has = whole.1.1 in
+    let same = one_file image_limit asked.names.primary contents wrong.image whole.1.0 wrong.readable has.readable in
+    wrong.wrong (sym wrong.size_is ∙ ap length same ∙ has.sized)
 
 -- ---- how the work can end
 
--- the words name files for which this refusal came, and its line was printed
-record IsRefusedFor (words : List (List ℕ)) (contents : HostContents) (told' : Option HostContents) (status : ℕ) : Type 0 where
-  names : Names
-  named : names_of words ≡ Some names
+-- the words ask for files for which this refusal came, and its line was printed
+record IsRefusedFor (words : List (List ℕ)) (contents : HostContents) (left : Option HostContents) (status : ℕ) : Type 0 where
+  asked : Asked
+  asks : Asks words asked
   why : Refusal
   status_is : status ≡ status_of why
-  cause : IsCause names contents why
-  printed : told' ≡ Some (with_printed (line_of names why) contents)
+  cause : IsCause asked contents why
+  printed : left ≡ Some (with_printed (line_of asked why) contents)
 
-abbrev Ends : List (List ℕ) → HostContents → Option HostContents → ℕ → List Entry → List ℕ → Type 0
-Ends words contents told' status entries written =
-    ((status ≡ 0) × ((replays : Replays words contents entries written) × (told' ≡ Some (with_printed (text_of entries) (with_file replays.gives.names.primary written contents)))))
-    ⊎ ((status ≡ 1) × (names_of words ≡ None))
-    ⊎ IsRefusedFor words contents told' status
-    ⊎ ((status ≡ 4) × IsCutShort words contents told' entries written)
-    ⊎ (status ≡ 9)
+-- the ends with their statuses: 0, 5, 1, those of refusals, 4 and 9
+abbrev Ends : List (List ℕ) → HostContents → Option HostContents → Left → Type 0
+Ends words contents left end =
+    ((end.status ≡ 0) × IsDone words contents left end)
+    ⊎ ((end.status ≡ 5) × IsByChance words contents left end)
+    ⊎ ((end.status ≡ 1) × AsksNothing words)
+    ⊎ IsRefusedFor words contents left end.status
+    ⊎ ((end.status ≡ 4) × IsCutShort words contents left end)
+    ⊎ (end.status ≡ 9)
 
-gives_line : (words : List (List ℕ)) (contents : HostContents) (names : Names) (why : Refusal) → names_of words ≡ Some names → IsCause names contents why → GivesLine words contents (line_of names why)
-gives_line words contents names (refusal.BadLine line) named cause = inr (inl (record { names = names; named = named; cause = (line, cause, refl) }))
-gives_line words contents names (refusal.WrongSize size) named cause = inr (inr (inl (record { names = names; named = named; cause = inl (size, cause, refl) })))
-gives_line words contents names refusal.NotErased named cause = inr (inr (inl (record { names = names; named = named; cause = inr (cause, refl) })))
-gives_line words contents names (refusal.Absent file) named cause = inr (inr (inr (record { names = names; named = named; cause = inl (name_of names file, cause, refl) })))
-gives_line words contents names (refusal.TooLong file) named cause = inr (inr (inr (record { names = names; named = named; cause = inr (name_of names file, limit_of file, cause, refl) })))
+gives_line : (words : List (List ℕ)) (contents : HostContents) (asked : Asked) (why : Refusal) → Asks words asked → IsCause asked contents why → GivesLine words contents (line_of asked why)
+gives_line words contents asked (refusal.BadLine line) asks cause = inr (inl (record { asked = asked; asks = asks; cause = (line, cause, refl) }))
+gives_line words contents asked (refusal.WrongSize size) asks cause = inr (inr (inl (record { asked = asked; asks = asks; cause = (size, cause, refl) })))
+gives_line words contents asked (refusal.Absent file) asks cause = inr (inr (inr (record { asked = asked; asks = asks; cause = inl (name_of asked file, cause, refl) })))
+gives_line words contents asked (refusal.TooLong file) asks cause = inr (inr (inr (record { asked = asked; asks = asks; cause = inr (name_of asked file, limit_of file, cause, refl) })))
 
-of_stop : (words : List (List ℕ)) (contents : HostContents) (told' : Option HostContents) (before mid after status : ℕ) (entries : List Entry) (written : List ℕ) (names : Names) (stop : Stop)
-    → names_of words ≡ Some names → IsNothing entries written → StopsFor names (Some contents) before mid stop → IsRefused names stop (Some contents) told' before after status
-    → Ends words contents told' status entries written
-of_stop words contents told' before mid after status entries written names (stop.Refused why) named nothing cause refused = elim refused [
-  | inl (inl all) ↦ inr (inr (inl (record { names = names; named = named; why = why; status_is = all.0; cause = cause; printed = all.1 })))
-  | inl (inr part) ↦ inr (inr (inr (inl (part.0, inr (inl (nothing, (line_of names why, gives_line words contents names why named cause, part.2)))))))
-  | inr none ↦ inr (inr (inr (inr none.0)))
-]
-of_stop words contents told' before mid after status entries written names stop.Fault named nothing cause refused = inr (inr (inr (inl (refused.0, inl (nothing, refused.1)))))
-of_stop words contents told' before mid after status entries written names stop.Memory named nothing cause refused = inr (inr (inr (inr refused.0)))
+module _ (words : List (List ℕ)) (contents : HostContents) (left : Option HostContents) (faults later : ℕ) where
+  abbrev here : Around
+  here = record { told = Some contents; left = left; faults = faults; later = later }
 
-abbrev of_replay : (words : List (List ℕ)) (contents : HostContents) (names : Names) (entries : List Entry) (image : List ℕ) → names_of words ≡ Some names → IsReplayed names (Some contents) entries image
-    → Replays words contents entries image
-of_replay words contents names entries image named replayed = record {
-  lines = replayed.lines;
-  gives = record { names = names; named = named; script = replayed.read.given.0; image = replayed.read.given.1 };
-  replay = replayed.replay;
-}
+  module _ (end : Left) (asked : Asked) (asks : Asks words asked) where
+    of_stop : (stop : Stop) → IsNothing end → StopsFor asked here stop → IsRefused asked stop here end.status → Ends words contents left end
+    of_stop (stop.Refused why) nothing cause refused = elim refused [
+      | inl (inl all) ↦ inr (inr (inr (inl (record { asked = asked; asks = asks; why = why; status_is = all.0; cause = cause; printed = all.1 }))))
+      | inl (inr part) ↦ inr (inr (inr (inr (inl (part.0, inr (inl (nothing, (line_of asked why, gives_line words contents asked why asks cause, part.2))))))))
+      | inr none ↦ inr (inr (inr (inr (inr none.0))))
+    ]
+    of_stop stop.Fault nothing cause refused = inr (inr (inr (inr (inl (refused.0, inl (nothing, refused.1))))))
+    of_stop stop.Memory nothing cause refused = inr (inr (inr (inr (inr refused.0))))
 
-of_finish : (words : List (List ℕ)) (contents : HostContents) (told' : Option HostContents) (before after status : ℕ) (entries : List Entry) (written image : List ℕ) (names : Names) → names_of words ≡ Some names
-    → IsReplayed names (Some contents) entries image → IsFinished names.primary image (text_of entries) written (Some contents) told' before after status → Ends words contents told' status entries written
-of_finish words contents told' before after status entries written image names named replayed (inl failed) =
-    inr (inr (inr (inl (failed.0, inr (inr (inl (failed.1, failed.3, (image, of_replay words contents names entries image named replayed))))))))
-of_finish words contents told' before after status entries written image names named replayed (inr (same, inl all)) =
-    subst (λ (w : List ℕ). Ends words contents told' status entries w) (sym same) (inl (all.0, (of_replay words contents names entries image named replayed, all.1)))
-of_finish words contents told' before after status entries written image names named replayed (inr (same, inr part)) =
-    subst (λ (w : List ℕ). Ends words contents told' status entries w) (sym same)
-    (inr (inr (inr (inl (part.0, inr (inr (inr (of_replay words contents names entries image named replayed, part.2))))))))
+    abbrev given : (lines : List Line) (image : List ℕ) → HasInputs asked contents lines image → GivesReplay words contents
+    given lines image inputs = record { asked = asked; asks = asks; lines = lines; image = image; inputs = inputs }
 
-ends : (words : List (List ℕ)) (contents : HostContents) (told' : Option HostContents) (before after status : ℕ) (entries : List Entry) (written : List ℕ)
-    → HasEnded words (Some contents) told' before after status entries written → Ends words contents told' status entries written
-ends words contents told' before after status entries written (inl (none, nothing, inl all)) = inr (inl (all.0, none))
-ends words contents told' before after status entries written (inl (none, nothing, inr part)) =
-    inr (inr (inr (inl (part.0, inr (inl (nothing, (words_line, inl (none, refl), part.2)))))))
-ends words contents told' before after status entries written (inr (names, named, inl (image, replayed, finished))) =
-    of_finish words contents told' before after status entries written image names named replayed finished
-ends words contents told' before after status entries written (inr (names, named, inr (nothing, (stop, cause, refused)))) =
-    of_stop words contents told' before after after status entries written names stop named nothing cause refused
+    abbrev replays : (written : List ℕ) → IsReplayed asked (Some contents) end.entries written → Replays words contents end.entries written
+    replays written done = record { gives = given done.lines done.image done.read; replay = done.replay }
+
+    abbrev stops : (place : ℕ) → IsStopped asked (Some contents) end.entries place → StopsByChance words contents end.entries
+    stops place done = record { gives = given done.lines done.image done.read; place = place; replay = done.replay }
+
+  of_finish : (status : ℕ) (entries : List Entry) (written image : List ℕ) (asked : Asked) (asks : Asks words asked) → IsReplayed asked (Some contents) entries image
+      → IsFinished asked image (text_by asked.by_client entries) here (ends_with status entries written) → Ends words contents left (ends_with status entries written)
+  of_finish status entries written image asked asks done (inl failed) =
+      inr (inr (inr (inr (inl (failed.0, inr (inr (inl (failed.1, failed.3, (image, replays (ends_with status entries written) asked asks image done)))))))))
+  of_finish status entries written image asked asks done (inr (same, inl all)) =
+      subst (λ (w : List ℕ). Ends words contents left (ends_with status entries w)) (sym same)
+      (inl (all.0, (replays (ends_with status entries image) asked asks image done, all.1)))
+  of_finish status entries written image asked asks done (inr (same, inr part)) =
+      subst (λ (w : List ℕ). Ends words contents left (ends_with status entries w)) (sym same)
+      (inr (inr (inr (inr (inl (part.0, inr (inr (inr (inl (replays (ends_with status entries image) asked asks image done, part.2))))))))))
+
+  of_chance : (end : Left) (asked : Asked) (asks : Asks words asked) (place : ℕ) → IsStopped asked (Some contents) end.entries place → end.written ≡ []
+      → IsPrinted (chance_text asked end.entries place) 5 here end.status → Ends words contents left end
+  of_chance end asked asks place done none (inl all) = inr (inl (all.0, (stops end asked asks place done, none, all.1)))
+  of_chance end asked asks place done none (inr part) =
+      inr (inr (inr (inr (inl (part.0, inr (inr (inr (inr (none, (stops end asked asks place done, part.2))))))))))
+
+  ends : (end : Left) → HasEnded words here end → Ends words contents left end
+  ends end (inl (none, nothing, inl all)) = inr (inr (inl (all.0, none)))
+  ends end (inl (none, nothing, inr part)) = inr (inr (inr (inr (inl (part.0, inr (inl (nothing, (words_line, inl (none, refl), part.2))))))))
+  ends end (inr (asked, asks, inl (image, done, finished))) = of_finish end.status end.entries end.written image asked asks done finished
+  ends end (inr (asked, asks, inr (inl (place, done, none, printed)))) = of_chance end asked asks place done none printed
+  ends end (inr (asked, asks, inr (inr (nothing, (stop, cause, refused))))) = of_stop end asked asks stop nothing cause refused
 
 -- ---- the clauses
 
--- no refusal has the status of what was done, or of a fault
+-- no refusal has the status of what was done, of a fault, or of a record by chance
 no_done : (why : Refusal) → status_of why ≢ 0
 no_done (refusal.BadLine line) is = omega (arith, is)
 no_done (refusal.WrongSize size) is = omega (arith, is)
-no_done refusal.NotErased is = omega (arith, is)
 no_done (refusal.Absent file) is = omega (arith, is)
 no_done (refusal.TooLong file) is = omega (arith, is)
 
 pub no_fault : (why : Refusal) → status_of why ≢ 4
 no_fault (refusal.BadLine line) is = omega (arith, is)
 no_fault (refusal.WrongSize size) is = omega (arith, is)
-no_fault refusal.NotErased is = omega (arith, is)
 no_fault (refusal.Absent file) is = omega (arith, is)
 no_fault (refusal.TooLong file) is = omega (arith, is)
 
-pub done : (words : List (List ℕ)) (told told' : Option HostContents) (before after status : ℕ) (entries : List Entry) (written : List ℕ) → HasEnded words told told' before after status entries written → status ≡ 0
-    → IfSome told (λ contents. (replays : Replays words contents entries written) × (told' ≡ Some (with_printed (text_of entries) (with_file replays.gives.names.primary written contents))))
-done words None told' before after status entries written ended is = tt
-done words (Some contents) told' before after status entries written ended is = elim (ends words contents told' before after status entries written ended) [
-  | inl whole ↦ whole.1
-  | inr (inl none) ↦ absurd (omega (arith, is, none.0))
-  | inr (inr (inl why)) ↦ absurd (no_done why.why (sym why.status_is ∙ is))
-  | inr (inr (inr (inl cut))) ↦ absurd (omega (arith, is, cut.0))
-  | inr (inr (inr (inr none))) ↦ absurd (omega (arith, is, none))
-]
-
-pub cut_short : (words : List (List ℕ)) (told told' : Option HostContents) (before after status : ℕ) (entries : List Entry) (written : List ℕ) → HasEnded words told told' before after status entries written → status ≡ 4
-    → IfSome told (λ contents. IsCutShort words contents told' entries written)
-cut_short words None told' before after status entries written ended is = tt
-cut_short words (Some contents) told' before after status entries written ended is = elim (ends words contents told' before after status entries written ended) [
-  | inl whole ↦ absurd (omega (arith, is, whole.0))
-  | inr (inl none) ↦ absurd (omega (arith, is, none.0))
-  | inr (inr (inl why)) ↦ absurd (no_fault why.why (sym why.status_is ∙ is))
-  | inr (inr (inr (inl cut))) ↦ cut.1
-  | inr (inr (inr (inr none))) ↦ absurd (omega (arith, is, none))
-]
+no_chance : (why : Refusal) → status_of why ≢ 5
+no_chance (refusal.BadLine line) is = omega (arith, is)
+no_chance (refusal.WrongSize size) is = omega (arith, is)
+no_chance (refusal.Absent file) is = omega (arith, is)
+no_chance (refusal.TooLong file) is = omega (arith, is)
 
 -- the cause of a refusal, by its status
-abbrev Of : Names → HostContents → List ℕ → ℕ → Type 0
-Of names contents line status =
-    ((status ≡ 2) × LacksScript names contents line) ⊎ ((status ≡ 3) × LacksImage names contents line) ⊎ ((status ≡ 6) × LacksFile names contents line)
+abbrev Of : Asked → HostContents → List ℕ → ℕ → Type 0
+Of asked contents line status =
+    ((status ≡ 2) × LacksScript asked contents line) ⊎ ((status ≡ 3) × LacksImage asked contents line) ⊎ ((status ≡ 6) × LacksFile asked contents line)
 
-of : (names : Names) (contents : HostContents) (why : Refusal) → IsCause names contents why → Of names contents (line_of names why) (status_of why)
-of names contents (refusal.BadLine line) cause = inl (refl, (line, cause, refl))
-of names contents (refusal.WrongSize size) cause = inr (inl (refl, inl (size, cause, refl)))
-of names contents refusal.NotErased cause = inr (inl (refl, inr (cause, refl)))
-of names contents (refusal.Absent file) cause = inr (inr (refl, inl (name_of names file, cause, refl)))
-of names contents (refusal.TooLong file) cause = inr (inr (refl, inr (name_of names file, limit_of file, cause, refl)))
+of : (asked : Asked) (contents : HostContents) (why : Refusal) → IsCause asked contents why → Of asked contents (line_of asked why) (status_of why)
+of asked contents (refusal.BadLine line) cause = inl (refl, (line, cause, refl))
+of asked contents (refusal.WrongSize size) cause = inr (inl (refl, (size, cause, refl)))
+of asked contents (refusal.Absent file) cause = inr (inr (refl, inl (name_of asked file, cause, refl)))
+of asked contents (refusal.TooLong file) cause = inr (inr (refl, inr (name_of asked file, limit_of file, cause, refl)))
 
 -- a refusal that was printed, with its cause
-record IsPrintedFor (words : List (List ℕ)) (contents : HostContents) (told' : Option HostContents) (status : ℕ) : Type 0 where
-  names : Names
-  named : names_of words ≡ Some names
+record IsPrintedFor (words : List (List ℕ)) (contents : HostContents) (left : Option HostContents) (status : ℕ) : Type 0 where
+  asked : Asked
+  asks : Asks words asked
   line : List ℕ
-  cause : Of names contents line status
-  printed : told' ≡ Some (with_printed line contents)
+  cause : Of asked contents line status
+  printed : left ≡ Some (with_printed line contents)
 
-printed_for : (words : List (List ℕ)) (contents : HostContents) (told' : Option HostContents) (before after status : ℕ) (entries : List Entry) (written : List ℕ)
-    → HasEnded words (Some contents) told' before after status entries written → status ≢ 0 → status ≢ 1 → status ≢ 4 → status ≢ 9 → IsPrintedFor words contents told' status
-printed_for words contents told' before after status entries written ended a b d e = elim (ends words contents told' before after status entries written ended) [
-  | inl whole ↦ absurd (a whole.0)
-  | inr (inl none) ↦ absurd (b none.0)
-  | inr (inr (inl why)) ↦ record {
-    names = why.names;
-    named = why.named;
-    line = line_of why.names why.why;
-    cause = subst (Of why.names contents (line_of why.names why.why)) (sym why.status_is) (of why.names contents why.why why.cause);
-    printed = why.printed;
-  }
-  | inr (inr (inr (inl cut))) ↦ absurd (d cut.0)
-  | inr (inr (inr (inr none))) ↦ absurd (e none)
-]
+-- a status of a refusal of the files
+abbrev IsOfFiles : ℕ → Type 0
+IsOfFiles status = (status ≡ 2) ⊎ ((status ≡ 3) ⊎ (status ≡ 6))
 
-pub script : (words : List (List ℕ)) (told told' : Option HostContents) (before after status : ℕ) (entries : List Entry) (written : List ℕ) → HasEnded words told told' before after status entries written → status ≡ 2
-    → IfSome told (λ contents. PrintsLine LacksScript words contents told')
-script words None told' before after status entries written ended is = tt
-script words (Some contents) told' before after status entries written ended is =
-    let p = printed_for words contents told' before after status entries written ended (λ k. omega (arith, is, k)) (λ k. omega (arith, is, k)) (λ k. omega (arith, is, k)) (λ k. omega (arith, is, k)) in elim (p.cause) [
-      | inl bad ↦ (p.line, record { names = p.names; named = p.named; cause = bad.1 }, p.printed)
-      | inr (inl other) ↦ absurd (omega (arith, is, other.0))
-      | inr (inr other) ↦ absurd (omega (arith, is, other.0))
-    ]
+other_status : (status n : ℕ) → IsOfFiles status → status ≡ n → n ≢ 2 → n ≢ 3 → n ≢ 6 → ⊥
+other_status status n (inl two) is a b c = a (sym is ∙ two)
+other_status status n (inr (inl three)) is a b c = b (sym is ∙ three)
+other_status status n (inr (inr six)) is a b c = c (sym is ∙ six)
 
-pub image : (words : List (List ℕ)) (told told' : Option HostContents) (before after status : ℕ) (entries : List Entry) (written : List ℕ) → HasEnded words told told' before after status entries written → status ≡ 3
-    → IfSome told (λ contents. PrintsLine LacksImage words contents told')
-image words None told' before after status entries written ended is = tt
-image words (Some contents) told' before after status entries written ended is =
-    let p = printed_for words contents told' before after status entries written ended (λ k. omega (arith, is, k)) (λ k. omega (arith, is, k)) (λ k. omega (arith, is, k)) (λ k. omega (arith, is, k)) in elim (p.cause) [
-      | inl other ↦ absurd (omega (arith, is, other.0))
-      | inr (inl bad) ↦ (p.line, record { names = p.names; named = p.named; cause = bad.1 }, p.printed)
-      | inr (inr other) ↦ absurd (omega (arith, is, other.0))
-    ]
+module _ (words : List (List ℕ)) (contents : HostContents) (left : Option HostContents) (end : Left) (ended : Ends words contents left end) where
+  when_done : end.status ≡ 0 → IsDone words contents left end
+  when_done is = elim ended [
+    | inl whole ↦ whole.1
+    | inr (inl chance) ↦ absurd (omega (arith, is, chance.0))
+    | inr (inr (inl none)) ↦ absurd (omega (arith, is, none.0))
+    | inr (inr (inr (inl why))) ↦ absurd (no_done why.why (sym why.status_is ∙ is))
+    | inr (inr (inr (inr (inl cut)))) ↦ absurd (omega (arith, is, cut.0))
+    | inr (inr (inr (inr (inr none)))) ↦ absurd (omega (arith, is, none))
+  ]
 
-pub file : (words : List (List ℕ)) (told told' : Option HostContents) (before after status : ℕ) (entries : List Entry) (written : List ℕ) → HasEnded words told told' before after status entries written → status ≡ 6
-    → IfSome told (λ contents. PrintsLine LacksFile words contents told')
-file words None told' before after status entries written ended is = tt
-file words (Some contents) told' before after status entries written ended is =
-    let p = printed_for words contents told' before after status entries written ended (λ k. omega (arith, is, k)) (λ k. omega (arith, is, k)) (λ k. omega (arith, is, k)) (λ k. omega (arith, is, k)) in elim (p.cause) [
-      | inl other ↦ absurd (omega (arith, is, other.0))
-      | inr (inl other) ↦ absurd (omega (arith, is, other.0))
-      | inr (inr bad) ↦ (p.line, record { names = p.names; named = p.named; cause = bad.1 }, p.printed)
-    ]
+  when_chance : end.status ≡ 5 → IsByChance words contents left end
+  when_chance is = elim ended [
+    | inl whole ↦ absurd (omega (arith, is, whole.0))
+    | inr (inl chance) ↦ chance.1
+    | inr (inr (inl none)) ↦ absurd (omega (arith, is, none.0))
+    | inr (inr (inr (inl why))) ↦ absurd (no_chance why.why (sym why.status_is ∙ is))
+    | inr (inr (inr (inr (inl cut)))) ↦ absurd (omega (arith, is, cut.0))
+    | inr (inr (inr (inr (inr none)))) ↦ absurd (omega (arith, is, none))
+  ]
 
--- ---- exactness
+  when_cut : end.status ≡ 4 → IsCutShort words contents left end
+  when_cut is = elim ended [
+    | inl whole ↦ absurd (omega (arith, is, whole.0))
+    | inr (inl chance) ↦ absurd (omega (arith, is, chance.0))
+    | inr (inr (inl none)) ↦ absurd (omega (arith, is, none.0))
+    | inr (inr (inr (inl why))) ↦ absurd (no_fault why.why (sym why.status_is ∙ is))
+    | inr (inr (inr (inr (inl cut)))) ↦ cut.1
+    | inr (inr (inr (inr (inr none)))) ↦ absurd (omega (arith, is, none))
+  ]
 
--- the status of an end that was not hindered, with its cause
-abbrev HasCause : Names → HostContents → ℕ → Type 0
-HasCause names contents status = ((status ≡ 0) × IsWhole names contents) ⊎ ((line : List ℕ) × Of names contents line status)
+  printed_for : IsOfFiles end.status → IsPrintedFor words contents left end.status
+  printed_for files = elim ended [
+    | inl whole ↦ absurd (other_status end.status 0 files whole.0 (λ k. omega (arith, k)) (λ k. omega (arith, k)) (λ k. omega (arith, k)))
+    | inr (inl chance) ↦ absurd (other_status end.status 5 files chance.0 (λ k. omega (arith, k)) (λ k. omega (arith, k)) (λ k. omega (arith, k)))
+    | inr (inr (inl none)) ↦ absurd (other_status end.status 1 files none.0 (λ k. omega (arith, k)) (λ k. omega (arith, k)) (λ k. omega (arith, k)))
+    | inr (inr (inr (inl why))) ↦ record {
+      asked = why.asked;
+      asks = why.asks;
+      line = line_of why.asked why.why;
+      cause = subst (Of why.asked contents (line_of why.asked why.why)) (sym why.status_is) (of why.asked contents why.why why.cause);
+      printed = why.printed;
+    }
+    | inr (inr (inr (inr (inl cut)))) ↦ absurd (other_status end.status 4 files cut.0 (λ k. omega (arith, k)) (λ k. omega (arith, k)) (λ k. omega (arith, k)))
+    | inr (inr (inr (inr (inr none)))) ↦ absurd (other_status end.status 9 files none (λ k. omega (arith, k)) (λ k. omega (arith, k)) (λ k. omega (arith, k)))
+  ]
 
-one_pair : (words : List (List ℕ)) (a b : Names) → names_of words ≡ Some a → names_of words ≡ Some b → b ≡ a
-one_pair words a b p q = cc
+  when_script : end.status ≡ 2 → PrintsLine LacksScript words contents left
+  when_script is = let p = printed_for (inl is) in elim (p.cause) [
+    | inl bad ↦ (p.line, record { asked = p.asked; asks = p.asks; cause = bad.1 }, p.printed)
+    | inr (inl other) ↦ absurd (omega (arith, is, other.0))
+    | inr (inr other) ↦ absurd (omega (arith, is, other.0))
+  ]
 
-no_names : (words : List (List ℕ)) (names : Names) → names_of words ≡ Some names → names_of words ≡ None → ⊥
-no_names words names some none = absurd cc
+  when_image : end.status ≡ 3 → PrintsLine LacksImage words contents left
+  when_image is = let p = printed_for (inr (inl is)) in elim (p.cause) [
+    | inl other ↦ absurd (omega (arith, is, other.0))
+    | inr (inl bad) ↦ (p.line, record { asked = p.asked; asks = p.asks; cause = bad.1 }, p.printed)
+    | inr (inr other) ↦ absurd (omega (arith, is, other.0))
+  ]
 
-whole_of : (words : List (List ℕ)) (contents : HostContents) (names : Names) (lines : List Line) → names_of words ≡ Some names → GivesReplay words contents lines → IsWhole names contents
-whole_of words contents names lines named gives =
-    subst (λ (n : Names). IsWhole n contents) (one_pair words names gives.names named gives.named) ((lines, gives.script), gives.image)
+  when_file : end.status ≡ 6 → PrintsLine LacksFile words contents left
+  when_file is = let p = printed_for (inr (inr is)) in elim (p.cause) [
+    | inl other ↦ absurd (omega (arith, is, other.0))
+    | inr (inl other) ↦ absurd (omega (arith, is, other.0))
+    | inr (inr bad) ↦ (p.line, record { asked = p.asked; asks = p.asks; cause = bad.1 }, p.printed)
+  ]
 
--- where the words name these files, the status has its cause
-cause : (words : List (List ℕ)) (contents : HostContents) (told' : Option HostContents) (before after status : ℕ) (entries : List Entry) (written : List ℕ) (names : Names) → names_of words ≡ Some names
-    → HasEnded words (Some contents) told' before after status entries written → status ≢ 4 → status ≢ 9 → HasCause names contents status
-cause words contents told' before after status entries written names named ended a b = elim (ends words contents told' before after status entries written ended) [
-  | inl whole ↦ inl (whole.0, whole_of words contents names whole.1.0.lines named whole.1.0.gives)
-  | inr (inl none) ↦ absurd (no_names words names named none.1)
-  | inr (inr (inl why)) ↦ inr (
-    line_of why.names why.why,
-    subst (λ (n : Names). Of n contents (line_of why.names why.why) status) (one_pair words names why.names named why.named)
-        (subst (Of why.names contents (line_of why.names why.why)) (sym why.status_is) (of why.names contents why.why why.cause)),
-  )
-  | inr (inr (inr (inl cut))) ↦ absurd (a cut.0)
-  | inr (inr (inr (inr none))) ↦ absurd (b none)
-]
+  -- ---- exactness
 
-pub only_script : (words : List (List ℕ)) (told told' : Option HostContents) (before after status : ℕ) (entries : List Entry) (written : List ℕ) → HasEnded words told told' before after status entries written
-    → IfSome told (λ contents. (line : List ℕ) → Gives LacksScript words contents line → IsUnlessHindered 2 status)
-only_script words None told' before after status entries written ended = tt
-only_script words (Some contents) told' before after status entries written ended = λ line gives a b.
-    let names = gives.names in let bad = gives.cause.1 in
-    elim (cause words contents told' before after status entries written names gives.named ended a b) [
-      | inl whole ↦ absurd (no_script names contents gives.cause.0 bad whole.1.0)
-      | inr (other, inl same) ↦ same.0
-      | inr (other, inr (inl wrong)) ↦ absurd (no_script names contents gives.cause.0 bad (of_wrong names contents other wrong.1).script)
-      | inr (other, inr (inr lacks)) ↦ absurd (bad_or_unread names contents gives.cause.0 bad (unread names contents other lacks.1))
-    ]
+  -- the status of an end that was not hindered, with its cause
+  abbrev HasCause : Asked → Type 0
+  HasCause asked = (((end.status ≡ 0) ⊎ (end.status ≡ 5)) × IsWhole asked contents) ⊎ ((line : List ℕ) × Of asked contents line end.status)
 
-pub only_image : (words : List (List ℕ)) (told told' : Option HostContents) (before after status : ℕ) (entries : List Entry) (written : List ℕ) → HasEnded words told told' before after status entries written
-    → IfSome told (λ contents. (line : List ℕ) → Gives LacksImage words contents line → IsUnlessHindered 3 status)
-only_image words None told' before after status entries written ended = tt
-only_image words (Some contents) told' before after status entries written ended = λ line gives a b.
-    let names = gives.names in let read = of_wrong names contents line gives.cause in
-    elim (cause words contents told' before after status entries written names gives.named ended a b) [
-      | inl whole ↦ absurd (image_or_whole names contents line gives.cause whole.1)
-      | inr (other, inl bad) ↦ absurd (no_script names contents bad.1.0 bad.1.1 read.script)
-      | inr (other, inr (inl same)) ↦ same.0
-      | inr (other, inr (inr lacks)) ↦ absurd (image_or_unread names contents read (unread names contents other lacks.1))
-    ]
+  whole_of : (asked : Asked) → Asks words asked → GivesReplay words contents → IsWhole asked contents
+  whole_of asked asks gives =
+      subst (λ (a : Asked). IsWhole a contents) (one_asked words gives.asked asked gives.asks asks)
+      ((gives.lines, gives.inputs.has_script), (gives.image, gives.inputs.has_image))
 
-pub only_file : (words : List (List ℕ)) (told told' : Option HostContents) (before after status : ℕ) (entries : List Entry) (written : List ℕ) → HasEnded words told told' before after status entries written
-    → IfSome told (λ contents. (line : List ℕ) → Gives LacksFile words contents line → IsUnlessHindered 6 status)
-only_file words None told' before after status entries written ended = tt
-only_file words (Some contents) told' before after status entries written ended = λ line gives a b.
-    let names = gives.names in let lacks = unread names contents line gives.cause in
-    elim (cause words contents told' before after status entries written names gives.named ended a b) [
-      | inl whole ↦ absurd (image_or_unread names contents (of_whole names contents whole.1) lacks)
-      | inr (other, inl bad) ↦ absurd (bad_or_unread names contents bad.1.0 bad.1.1 lacks)
-      | inr (other, inr (inl wrong)) ↦ absurd (image_or_unread names contents (of_wrong names contents other wrong.1) lacks)
-      | inr (other, inr (inr same)) ↦ same.0
-    ]
+  -- where the words ask for these files, the status has its cause
+  cause : (asked : Asked) → Asks words asked → end.status ≢ 4 → end.status ≢ 9 → HasCause asked
+  cause asked asks a b = elim ended [
+    | inl whole ↦ inl (inl whole.0, whole_of asked asks whole.1.0.gives)
+    | inr (inl chance) ↦ inl (inr chance.0, whole_of asked asks chance.1.0.gives)
+    | inr (inr (inl none)) ↦ absurd (none.1 asked asks)
+    | inr (inr (inr (inl why))) ↦ inr (
+      line_of why.asked why.why,
+      subst (λ (n : Asked). Of n contents (line_of why.asked why.why) end.status) (one_asked words why.asked asked why.asks asks)
+          (subst (Of why.asked contents (line_of why.asked why.why)) (sym why.status_is) (of why.asked contents why.why why.cause)),
+    )
+    | inr (inr (inr (inr (inl cut)))) ↦ absurd (a cut.0)
+    | inr (inr (inr (inr (inr none)))) ↦ absurd (b none)
+  ]
 
-pub only_done : (words : List (List ℕ)) (told told' : Option HostContents) (before after status : ℕ) (entries : List Entry) (written : List ℕ) → HasEnded words told told' before after status entries written
-    → IfSome told (λ contents. (lines : List Line) → GivesReplay words contents lines → IsUnlessHindered 0 status)
-only_done words None told' before after status entries written ended = tt
-only_done words (Some contents) told' before after status entries written ended = λ lines gives a b.
-    let names = gives.names in let whole = whole_of words contents names lines gives.named gives in
-    elim (cause words contents told' before after status entries written names gives.named ended a b) [
-      | inl same ↦ same.0
-      | inr (other, inl bad) ↦ absurd (no_script names contents bad.1.0 bad.1.1 whole.0)
-      | inr (other, inr (inl wrong)) ↦ absurd (image_or_whole names contents other wrong.1 whole)
-      | inr (other, inr (inr lacks)) ↦ absurd (image_or_unread names contents (of_whole names contents whole) (unread names contents other lacks.1))
-    ]
+  only_bad : (line : List ℕ) → Gives LacksScript words contents line → IsUnlessHindered 2 end.status
+  only_bad line gives a b = let asked = gives.asked in let bad = gives.cause.1 in elim (cause asked gives.asks a b) [
+    | inl whole ↦ absurd (no_script asked contents gives.cause.0 bad whole.1.0)
+    | inr (other, inl same) ↦ same.0
+    | inr (other, inr (inl wrong)) ↦ absurd (no_script asked contents gives.cause.0 bad (of_wrong asked contents other wrong.1).script)
+    | inr (other, inr (inr lacks)) ↦ absurd (bad_or_unread asked contents gives.cause.0 bad (unread asked contents other lacks.1))
+  ]
+
+  only_wrong : (line : List ℕ) → Gives LacksImage words contents line → IsUnlessHindered 3 end.status
+  only_wrong line gives a b = let asked = gives.asked in let read = of_wrong asked contents line gives.cause in elim (cause asked gives.asks a b) [
+    | inl whole ↦ absurd (image_or_whole asked contents line gives.cause whole.1)
+    | inr (other, inl bad) ↦ absurd (no_script asked contents bad.1.0 bad.1.1 read.script)
+    | inr (other, inr (inl same)) ↦ same.0
+    | inr (other, inr (inr lacks)) ↦ absurd (image_or_unread asked contents read (unread asked contents other lacks.1))
+  ]
+
+  only_lacking : (line : List ℕ) → Gives LacksFile words contents line → IsUnlessHindered 6 end.status
+  only_lacking line gives a b = let asked = gives.asked in let lacks = unread asked contents line gives.cause in elim (cause asked gives.asks a b) [
+    | inl whole ↦ absurd (image_or_unread asked contents (of_whole asked contents whole.1) lacks)
+    | inr (other, inl bad) ↦ absurd (bad_or_unread asked contents bad.1.0 bad.1.1 lacks)
+    | inr (other, inr (inl wrong)) ↦ absurd (image_or_unread asked contents (of_wrong asked contents other wrong.1) lacks)
+    | inr (other, inr (inr same)) ↦ same.0
+  ]
+
+  only_whole : GivesReplay words contents → IsReplayedUnlessHindered end.status
+  only_whole gives a b = let asked = gives.asked in let whole = whole_of asked gives.asks gives in elim (cause asked gives.asks a b) [
+    | inl same ↦ same.0
+    | inr (other, inl bad) ↦ absurd (no_script asked contents bad.1.0 bad.1.1 whole.0)
+    | inr (other, inr (inl wrong)) ↦ absurd (image_or_whole asked contents other wrong.1 whole)
+    | inr (other, inr (inr lacks)) ↦ absurd (image_or_unread asked contents (of_whole asked contents whole) (unread asked contents other lacks.1))
+  ]
+
+-- ---- the same where the host may tell nothing
+
+module _ (words : List (List ℕ)) (left : Option HostContents) (faults later : ℕ) (end : Left) where
+  abbrev seen : Option HostContents → Around
+  seen told = record { told = told; left = left; faults = faults; later = later }
+
+  where_told : (told : Option HostContents) (P : HostContents → Type 0) → HasEnded words (seen told) end → ((contents : HostContents) → Ends words contents left end → P contents) → IfSome told P
+  where_told None P ended follows = tt
+  where_told (Some contents) P ended follows = follows contents (ends words contents left faults later end ended)
+
+  pub done : (told : Option HostContents) → HasEnded words (seen told) end → end.status ≡ 0 → IfSome told (λ c. IsDone words c left end)
+  done told ended is = where_told told (λ c. IsDone words c left end) ended (λ c e. when_done words c left end e is)
+
+  pub chance : (told : Option HostContents) → HasEnded words (seen told) end → end.status ≡ 5 → IfSome told (λ c. IsByChance words c left end)
+  chance told ended is = where_told told (λ c. IsByChance words c left end) ended (λ c e. when_chance words c left end e is)
+
+  pub cut_short : (told : Option HostContents) → HasEnded words (seen told) end → end.status ≡ 4 → IfSome told (λ c. IsCutShort words c left end)
+  cut_short told ended is = where_told told (λ c. IsCutShort words c left end) ended (λ c e. when_cut words c left end e is)
+
+  pub script : (told : Option HostContents) → HasEnded words (seen told) end → end.status ≡ 2 → IfSome told (λ c. PrintsLine LacksScript words c left)
+  script told ended is = where_told told (λ c. PrintsLine LacksScript words c left) ended (λ c e. when_script words c left end e is)
+
+  pub image : (told : Option HostContents) → HasEnded words (seen told) end → end.status ≡ 3 → IfSome told (λ c. PrintsLine LacksImage words c left)
+  image told ended is = where_told told (λ c. PrintsLine LacksImage words c left) ended (λ c e. when_image words c left end e is)
+
+  pub file : (told : Option HostContents) → HasEnded words (seen told) end → end.status ≡ 6 → IfSome told (λ c. PrintsLine LacksFile words c left)
+  file told ended is = where_told told (λ c. PrintsLine LacksFile words c left) ended (λ c e. when_file words c left end e is)
+
+  pub only_script : (told : Option HostContents) → HasEnded words (seen told) end → IfSome told (λ c. (line : List ℕ) → Gives LacksScript words c line → IsUnlessHindered 2 end.status)
+  only_script told ended = where_told told (λ c. (line : List ℕ) → Gives LacksScript words c line → IsUnlessHindered 2 end.status) ended (λ c e. only_bad words c left end e)
+
+  pub only_image : (told : Option HostContents) → HasEnded words (seen told) end → IfSome told (λ c. (line : List ℕ) → Gives LacksImage words c line → IsUnlessHindered 3 end.status)
+  only_image told ended = where_told told (λ c. (line : List ℕ) → Gives LacksImage words c line → IsUnlessHindered 3 end.status) ended (λ c e. only_wrong words c left end e)
+
+  pub only_file : (told : Option HostContents) → HasEnded words (seen told) end → IfSome told (λ c. (line : List ℕ) → Gives LacksFile words c line → IsUnlessHindered 6 end.status)
+  only_file told ended = where_told told (λ c. (line : List ℕ) → Gives LacksFile words c line → IsUnlessHindered 6 end.status) ended (λ c e. only_lacking words c left end e)
+
+  pub only_done : (told : Option HostContents) → HasEnded words (seen told) end → IfSome told (λ c. GivesReplay words c → IsReplayedUnlessHindered end.status)
+  only_done told ended = where_told told (λ c. GivesReplay words c → IsReplayedUnlessHindered end.status) ended (λ c e. only_whole words c left end e)
+
+-- ---- a refusal leaves nothing
+
+pub nothing : (words : List (List ℕ)) (a : Around) (end : Left) → HasEnded words a end → end.status ≢ 0 → end.status ≢ 4 → end.status ≢ 5 → IsNothing end
+nothing words a end (inl (none, empty, printed)) done fault chance = empty
+nothing words a end (inr (asked, asks, inl (image, replayed, inl failed))) done fault chance = absurd (fault failed.0)
+nothing words a end (inr (asked, asks, inl (image, replayed, inr (same, inl all)))) done fault chance = absurd (done all.0)
+nothing words a end (inr (asked, asks, inl (image, replayed, inr (same, inr part)))) done fault chance = absurd (fault part.0)
+nothing words a end (inr (asked, asks, inr (inl (place, stopped, none, inl all)))) done fault chance = absurd (chance all.0)
+nothing words a end (inr (asked, asks, inr (inl (place, stopped, none, inr part)))) done fault chance = absurd (fault part.0)
+nothing words a end (inr (asked, asks, inr (inr (empty, why)))) done fault chance = empty

@@ -1,11 +1,7 @@
-mod AppendLemmas
-pub mod CallLines
+pub mod AskedLemmas
 pub mod Causes
+pub mod EndLemmas
 pub mod Endings
 pub mod RefusalLines
-mod MountedLemmas
-mod ReadingLemmas
-mod RunLemmas
-mod StepLemmas
-mod StoreLemmas
-mod TableLemmas
+pub mod RunLemmas
+pub mod Untold

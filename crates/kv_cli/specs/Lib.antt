@@ -1,13 +1,6 @@
-pub mod EarlyStore
-pub mod Images
+pub mod Asked
 pub mod Inputs
-pub mod LogStore
 pub mod Outcomes
-pub mod Reading
 pub mod Refusals
 pub mod Replays
 pub mod Runs
-pub mod Searches
-pub mod Shown
-pub mod Words
-pub mod Writing

@@ -1,73 +1,98 @@
--- What a replay of a script is: a legal history from the empty store, of the calls of its lines in order.
-use Rattle.std.specs.Prelude.{◌≡◌, ℕ, List, [], ◌∷◌, length, map, All, Some, None}
-use Rattle.std.specs.List.{flat_map}
-use Rattle.std.specs.FinMap.{empty}
-use Rattle.flash_core.specs.declared.geometry.Geometry.{Geometry}
-use Rattle.kv_model.specs.FlaggedMap.{FlaggedMap}
-use Rattle.kv_model.specs.declared.call.Call.{Call}
+-- What a replay of a script over an image is.
+use Rattle.std.specs.Prelude.{◌≡◌, ◌⊎◌, ℕ, Bool, true, false, List, ◌++◌, None, length, codes, MatchOption, Contains}
+use Rattle.std.specs.Fmt.{decimal}
+use Rattle.std.specs.FinMap as map
+use Rattle.flash_core.specs.Runs.{Done}
+use Rattle.flash_core.specs.Sizes.{size_of}
+use Rattle.flash_core.specs.State.{DeviceCall, after_of, before_of}
+use Rattle.journal_core.specs.Clients.{text_by_client}
+use Rattle.journal_core.specs.Texts.{text_of}
 use Rattle.kv_model.specs.declared.call.Entry.{Entry}
-use Rattle.kv_model.specs.declared.call.Reply.{Reply}
-use Rattle.kv_model.specs.declared.call.Reply.TheVariants.{Refused}
-use Rattle.kv_model.specs.declared.error.KvError.TheVariants as error
-use Rattle.kv_model.specs.StoreState.{StoreState, fresh_state}
 use Rattle.kv_model.specs.Constants.{Constants}
-use Rattle.kv_model.specs.Write.{Write}
+use Rattle.kv_model.specs.FlaggedMap.{FlaggedMap}
+use Rattle.kv_model.specs.History.{IsLegal}
+use Rattle.kv_model.specs.Opening.{Log}
+use Rattle.kv_model.specs.PlainStep.{plain_rules}
+use Rattle.kv_model.specs.Rules.{cuts}
+use Rattle.kv_model.specs.StoreState.{StoreState, fresh_state, maps_of}
 use Rattle.kv_model.specs.Writes.{writes}
-use Rattle.record_core.specs.Mounts.{Holds, Mounts}
-use Rattle.script_core.specs.declared.line.Act.{Act}
-use Rattle.script_core.specs.declared.line.Act.TheVariants.{Do, Cut}
+use Rattle.record_core.specs.Chance.{FirstBreak}
+use Rattle.record_core.specs.Mounts.{Mounts}
 use Rattle.script_core.specs.declared.line.Line.{Line}
-use Rattle.kv_cli.specs.EarlyStore.{IsEarlyLegal}
-use Rattle.kv_cli.specs.Images.{image_size}
-use Rattle.kv_cli.specs.LogStore.{Masters}
+use Rattle.script_core.specs.LineOrder.{InOrder}
+use Rattle.session_core.specs.Growing.{WantsNoCollection, grown}
+use Rattle.session_core.specs.Power.{ShowsCuts, acts_of, cuts_in}
+use Rattle.session_core.specs.Replaying.{IsMountBehind}
+use Rattle.session_core.specs.Telling.{IsLogIn, over_one}
+use Rattle.tdb_mount.specs.Format.{Leaves}
+use Rattle.kv_cli.specs.Asked.{Asked, constants_of, power_by}
 
-abbrev pub run_geometry : Geometry
-run_geometry = record { prog = 8; erase = 4096; units_per_area = 16 }
+-- running, with this map, no set, no iterator and the first vector
+abbrev pub first_state : FlaggedMap → StoreState
+first_state m = fresh_state m map.empty 1
 
--- the geometry 8:4096:16 and all 32 bits of a CRC as the hash
-abbrev pub run_constants : Constants
-run_constants = record { hash_bits = 32; prog = 8; room = 65496; secure = None }
+-- The entries are one legal history of the map to which the image mounts, and power cuts show where they may.
+pub record IsHistory (asked : Asked) (image : List ℕ) (lines : List Line) (entries : List Entry) (last : StoreState) : Type 0 where
+  pub map : FlaggedMap
+  pub mounts : Mounts asked.geometry image map
+  pub legal : IsLegal (plain_rules (constants_of asked)) (first_state map) entries last
+  pub shows : ShowsCuts (power_by asked.cut) lines entries
 
--- running, with an empty map, no set, no iterator and the first vector
-abbrev pub first_state : StoreState
-first_state = fresh_state empty empty 1
+-- the map of a store that runs; of a stopped one such as a power cut in the call in doubt may leave
+abbrev pub IsLeftBy : Constants → StoreState → FlaggedMap → Type 0
+IsLeftBy constants last m = MatchOption last.doubt
+    (over_one m ≡ maps_of last)
+    (λ doubt. Contains (cuts (plain_rules constants) last doubt.who doubt.operation) (over_one m))
 
--- the masters that a format leaves
-abbrev pub first_masters : Masters
-first_masters = record { first = Some 1; second = None }
+-- an image that mounts to what a history leaves
+pub record IsImageOf (asked : Asked) (last : StoreState) (written : List ℕ) : Type 0 where
+  pub sized : length written ≡ size_of asked.geometry
+  pub map : FlaggedMap
+  pub mounts : Mounts asked.geometry written map
+  pub left : IsLeftBy (constants_of asked) last map
 
--- who called what
-abbrev pub called : Entry → ℕ × Call
-called entry = (entry.who, entry.call)
+-- The opened image is the one that was read, formatted where no area of it is valid. Where the log in it wants no
+-- collection, the written image holds that log with the records of the history behind it, in the same area and with the
+-- same version.
+pub record Grows (asked : Asked) (image : List ℕ) (entries : List Entry) (written : List ℕ) : Type 0 where
+  pub opened : List ℕ
+  pub leaves : Leaves asked.geometry image opened Done
+  pub log : Log
+  pub holds : IsLogIn asked.geometry opened log
+  pub grows : WantsNoCollection (constants_of asked) log entries → IsLogIn asked.geometry written (grown log (writes None entries))
 
-abbrev pub asked_by : ℕ → Act → List (ℕ × Call)
-asked_by who (Do call) = (who, call) ∷ []
-asked_by who (Cut side n pattern) = []
-
--- a line that cuts the power calls nothing
-abbrev pub asked : Line → List (ℕ × Call)
-asked line = asked_by line.who line.act
-
--- a reply that tells of no fault of the device, of no stop after one, and of no want of memory
-abbrev pub IsFaultless : Reply → Type 0
-IsFaultless (Refused error.Stopped) = ⊥
-IsFaultless (Refused error.ReadFault) = ⊥
-IsFaultless (Refused error.WriteFault) = ⊥
-IsFaultless (Refused (error.Corrupt stored computed)) = ⊥
-IsFaultless (Refused error.Memory) = ⊥
-IsFaultless reply = Unit {0}
-
--- the image holds these records behind a master record of version 1 in area 0, and nothing else
-abbrev pub HasLogOf : List ℕ → List Write → Type 0
-HasLogOf image records = (end : ℕ) × Holds run_geometry image (record { first = Some 1; second = None; records = records; end = end })
-
--- Each call is that of a line, in order, and follows from those before it; the image holds the records that they write,
--- in order, and mounts to the map that they leave.
-pub record IsReplayOf (lines : List Line) (entries : List Entry) (image : List ℕ) : Type 0 where
+-- All lines were run, each once and in order, and this is the image that they leave. Where no power was cut, its log grew
+-- by the records of the history.
+pub record IsReplayOf (asked : Asked) (image : List ℕ) (lines : List Line) (entries : List Entry) (written : List ℕ) : Type 0 where
   pub last : StoreState
-  pub legal : IsEarlyLegal run_constants first_state entries last
-  pub in_order : map called entries ≡ flat_map asked lines
-  pub faultless : All (λ (entry : Entry). IsFaultless entry.reply) entries
-  pub sized : length image ≡ image_size
-  pub log : HasLogOf image (writes None entries)
-  pub mounts : (map : FlaggedMap) × Mounts run_geometry image map × (map ≡ last.primary)
+  pub history : IsHistory asked image lines entries last
+  pub in_order : InOrder entries lines
+  pub image_of : IsImageOf asked last written
+  pub grows : asked.cut ≡ None → cuts_in (acts_of lines) ≡ 0 → Grows asked image entries written
+
+-- all lines were run, or those before a mount
+abbrev pub StopsInOrder : List Entry → List Line → Type 0
+StopsInOrder entries lines = InOrder entries lines ⊎ ((before : List Line) × IsMountBehind lines before × InOrder entries before)
+
+-- A write was torn, and in the image that it left the record at this place, the first, stands in neither whole image.
+pub record IsByChance (asked : Asked) (place : ℕ) : Type 0 where
+  pub image : List ℕ
+  pub sized : length image ≡ size_of asked.geometry
+  pub call : DeviceCall
+  pub first : FirstBreak asked.geometry (before_of call image) (after_of call image) image place
+
+-- Lines were run in order, up to a mount that found a record by chance.
+pub record IsStoppedReplay (asked : Asked) (image : List ℕ) (lines : List Line) (entries : List Entry) (place : ℕ) : Type 0 where
+  pub last : StoreState
+  pub history : IsHistory asked image lines entries last
+  pub in_order : StopsInOrder entries lines
+  pub chance : IsByChance asked place
+
+-- ---- what is printed
+
+abbrev pub text_by : Bool → List Entry → List ℕ
+text_by true entries = text_by_client entries
+text_by false entries = text_of entries
+
+unfoldable pub chance_line : ℕ → List ℕ
+chance_line place = codes "refused: chance at p " ++ decimal place ++ codes "\n"

@@ -17,7 +17,7 @@ const MASTER: [u8; 40] = [
     0x00, 0x00, 0x00, 0x00, 0xff, 0xff, 0xff, 0xff,
 ];
 
-/// The record of key `a` with the bytes 00 and ff, whose CRC is by another implementation of CRC-32.
+/// The record of key `a` with the bytes 00 and ff; its CRC is by another implementation of CRC-32.
 const RECORD: [u8; 32] = [
     0x4b, 0x56, 0x52, 0x31, 0x18, 0x00, 0x01, 0x00, 0x00, 0x00, 0x00, 0x00, 0x01, 0x00, 0x00, 0x00,
     0x02, 0x00, 0x00, 0x00, 0x21, 0x78, 0x5e, 0x84, 0x61, 0x00, 0xff, 0xff, 0xff, 0xff, 0xff, 0xff,
@@ -96,12 +96,8 @@ fn the_words_are_those_behind_the_name(rt: HostRuntime) -> Result<(), Fail> {
     give(&rt, alloc, &replay, &replay[1..])?;
     give(&rt, alloc, &["vaskeldi", "", "b", ""], &["", "b", ""])?;
     give(&rt, alloc, &["vaskeldi"], &[])?;
-    give(&rt, alloc, &[], &[])
-}
-
-#[test]
-fn arguments_that_cannot_be_read_are_no_words(rt: HostRuntime) -> Result<(), Fail> {
-    let alloc = rt.alloc();
+    give(&rt, alloc, &[], &[])?;
+    // arguments that can't be read are no words
     let words = words_behind_name(alloc, Err(io::Error::from(ErrorKind::InvalidData)))?;
     assert!(rt; words.is_empty());
     let refused = words_behind_name(alloc, Err(io::Error::from(ErrorKind::OutOfMemory)));

@@ -1,16 +1,18 @@
-//! The program: it replays a script of calls over the image of a flash device.
+//! The program: it replays a script of calls over the image of a flash device, power cuts among
+//! them.
 #![tactic(auto)]
 
 mod arguments;
 #[cfg(test)]
+mod cases;
+#[cfg(test)]
 mod edge_tests;
 mod inputs;
-mod laws;
 mod refusal;
+#[cfg(test)]
+mod replay_tests;
 mod run;
-mod script;
 mod stop;
-mod store;
 #[cfg(test)]
 mod tests;
 mod tool;

@@ -1,42 +1,20 @@
-ghost use Rattle.std.specs.Prelude.{◌≡◌, map, MatchOption, Some, None};
+// The replay that the words of a command line ask for.
+ghost use Rattle.std.specs.Prelude.{map, MatchOption};
 ghost use Rattle.std.specs.Rc.{rc_str_bytes};
-ghost use Rattle.kv_cli.specs.Words.{is_file_name, names_of};
+ghost use Rattle.kv_cli.specs.Asked.{Asks, AsksNothing, asked_in};
 
+use command_words::{Command, Session as Asked, WrongWords, read_words};
 use std::rc::RcStr;
 
-/// The files that the words of a replay name.
-#[derive(Clone, Copy)]
-pub struct Names<'a> {
-    pub primary: &'a str,
-    pub script: &'a str,
-}
-
-fn is_file_name(word: &str) -> bool
-    ensures { result ≡ is_file_name word.now }
+/// What the words ask for, where they are a replay over one image. They are read by the grammar of
+/// `command_words`; a replay over two images, and `run`, are not built.
+pub fn asked_by(words: &[RcStr]) -> Option<Asked<'_>>
+    ensures { MatchOption result (AsksNothing (map rc_str_bytes words.now))
+        (λ asked. Asks (map rc_str_bytes words.now) (asked_in asked)) }
 {
-    match word.as_bytes() {
-        [] => true,
-        [first, ..] => *first != b'-',
-    }
-}
-
-/// What the words say, where they are `replay PRIMARY - SCRIPT` and neither name begins with a dash.
-pub fn names_of(words: &[RcStr]) -> Option<Names<'_>>
-    ensures { MatchOption result (names_of (map rc_str_bytes words.now) ≡ None)
-        (λ names. names_of (map rc_str_bytes words.now) ≡ Some (record { primary = names.primary.now; script = names.script.now })) }
-{
-    let [command, primary, rollback, script] = words else {
-        return None;
-    };
-    let primary = primary.as_str();
-    let script = script.as_str();
-    if command.as_str() == "replay"
-        && rollback.as_str() == "-"
-        && is_file_name(primary)
-        && is_file_name(script)
-    {
-        Some(Names { primary, script })
-    } else {
-        None
+    match read_words(words) {
+        Ok(Command::Replay { session }) => { if session.secure { None } else { Some(session) } }
+        Ok(Command::Run { session: _ }) => None,
+        Err(WrongWords) => None,
     }
 }
