@@ -1,6 +1,6 @@
 -- The end of a remove that was begun: it is finished or given up.
-use Rattle.std.proofs.Common.{◌≡◌, ℕ, Bool, true, false, List, Option, Some, None, refl, sym, ◌∙◌, ap, subst}
-use Rattle.std.specs.Prelude.{◌==◌, IsTrue}
+use Rattle.std.proofs.Common.{◌≡◌, ℕ, Bool, true, false, List, [], Option, Some, None, refl, sym, ◌∙◌, ap, subst}
+use Rattle.std.specs.Prelude.{◌==◌, if◌then◌else◌, IsTrue}
 use mathlib.Core.Bool.{false≢true}
 use Rattle.kv_model.specs.declared.error.KvError.{KvError}
 use Rattle.kv_model.specs.declared.call.Reply.{Reply}
@@ -8,20 +8,23 @@ use Rattle.kv_model.specs.declared.call.Reply.TheVariants.{Done, Refused}
 use Rattle.kv_model.specs.Checks.{may_fail_writing}
 use Rattle.kv_model.specs.Constants.{Constants}
 use Rattle.kv_model.specs.FlaggedMap.{FlaggedMap}
-use Rattle.kv_model.specs.StoreState.{OpenSet, StoreState, begun_remove}
-use Rattle.kv_model.specs.Operations.{Abort, Finish}
+use Rattle.kv_model.specs.Flags.{is_mirrored}
+use Rattle.kv_model.specs.StoreState.{OpenSet, StoreState, begun_remove, begun_set}
+use Rattle.kv_model.specs.Operations.{Operation, Abort, Finish}
 use Rattle.kv_model.specs.Rules.{Outcome, Rules, step}
 use Rattle.kv_model.specs.Kv.{Answered, Answers, IsLawful, KvState, answered}
 use Rattle.sealed_pair.specs.declared.active.Active.{Active}
 use Rattle.sealed_pair.specs.declared.active.Begun.{Begun}
-use Rattle.sealed_pair.specs.declared.active.Begun.TheVariants.{Remove}
-use Rattle.sealed_pair.specs.Active.{opened_by, share_by, share_of_remove}
+use Rattle.sealed_pair.specs.declared.active.Begun.TheVariants.{Remove, Set}
+use Rattle.sealed_pair.specs.Active.{opened_by, share_in_primary, share_in_rollback, share_of_remove}
 use Rattle.sealed_pair.specs.Begun.{active_remove, finishes_remove, parts_in, with_key_gone}
 use Rattle.sealed_pair.specs.Going.{Failed, HasGone, Work, map_after}
+use Rattle.sealed_pair.specs.declared.limits.TheConstants.{TAG_SIZE}
 use Rattle.sealed_pair.specs.Pair.{pair_constants}
 use Rattle.sealed_pair.specs.Running.{HasRun, IsOpen, Parts, WhereRun, one_of, parts, rules_of}
+use Rattle.sealed_pair.specs.Sealing.{kept_flags}
 use Rattle.sealed_pair.specs.SecureStep.{secure_rules}
-use Rattle.sealed_pair.specs.Shares.{NoShare, Share}
+use Rattle.sealed_pair.specs.Shares.{NoShare, Share, share_of}
 use Rattle.sealed_pair.specs.Store.{Own, idle_own, joined, joined_by}
 use Rattle.sealed_pair.proofs.BegunLemmas.{IsOwned, gone_given_up}
 use Rattle.sealed_pair.proofs.GoingLemmas.{gone_none}
@@ -92,11 +95,21 @@ module _ (key : List ℕ) (who : ℕ) (above_begun below_begun : Bool) where
 
 -- ---- given up
 
-owned_share : (who : ℕ) (begun : Begun) (is_begun : Bool) → IsOwned (share_by who begun is_begun) who
-owned_share who (Remove key) is_begun = owned_by key who is_begun
+owned_above : (root : List ℕ) (n who : ℕ) (begun : Begun) (is_begun : Bool) → IsOwned (share_in_primary root n who begun is_begun) who
+owned_above root n who (Remove key) is_begun = owned_by key who is_begun
+owned_above root n who (Set set) is_begun = refl
+
+owned_if : (who : ℕ) (set : OpenSet) (b : Bool) → set.owner ≡ who → IsOwned (share_of (if b then Some set else None)) who
+owned_if who set true own = own
+owned_if who set false own = tt
+
+owned_below : (who : ℕ) (begun : Begun) (is_begun : Bool) → IsOwned (share_in_rollback who begun is_begun) who
+owned_below who (Remove key) is_begun = owned_by key who is_begun
+owned_below who (Set set) is_begun = owned_if who (record (begun_set who set.key (kept_flags set.flags.bits) TAG_SIZE None) { bytes = [] }) (is_mirrored set.flags.bits) refl
 
 owner_of : (who : ℕ) (begun : Begun) → (opened_by who begun).owner ≡ who
 owner_of who (Remove key) = refl
+owner_of who (Set set) = refl
 
 module _ (root : List ℕ) (n : ℕ) (by_above by_below : Constants → Rules) (u u' r r' : KvState) (who : ℕ) (begun : Begun) (above_begun below_begun : Bool) where
   abbrev its_active : Option Active
@@ -126,18 +139,9 @@ module _ (root : List ℕ) (n : ℕ) (by_above by_below : Constants → Rules) (
       → HasRun with_set (parts root n by_above u' by_below r') (answered who Abort Done)
   abort_done reply reply_too answers answers_too =
       run_done with_set who Abort stays stays goals (idle_own n) u' NoShare r' NoShare unset unset
-      (gone_given_up (share_by who begun above_begun) (share_by who begun above_begun) by_above u u u' (λ s. s) stays who (gone_none by_above u stays) (λ above at. runs_of at) (owned_share who begun above_begun) (λ above at. refl) reply answers)
-      (gone_given_up (share_by who begun below_begun) (share_by who begun below_begun) by_below r r r' (λ s. s) stays who (gone_none by_below r stays) (λ below at. runs_of at) (owned_share who begun below_begun) (λ below at. refl) reply_too answers_too)
+      (gone_given_up (share_in_primary root n who begun above_begun) (share_in_primary root n who begun above_begun) by_above u u u' (λ s. s) stays who (gone_none by_above u stays) (λ above at. runs_of at) (owned_above root n who begun above_begun) (λ above at. refl) reply answers)
+      (gone_given_up (share_in_rollback who begun below_begun) (share_in_rollback who begun below_begun) by_below r r r' (λ s. s) stays who (gone_none by_below r stays) (λ below at. runs_of at) (owned_below who begun below_begun) (λ below at. refl) reply_too answers_too)
       (λ above at. record { running = at.running; holds = refl }) (λ below at. record { running = at.running; holds = refl }) aborts
-
--- a finish of what was begun, whatever it is
-pub finish_any : (root : List ℕ) (n : ℕ) (by_above by_below : Constants → Rules) (u r : KvState) (active : Active) (new : Parts) (call : Answered)
-    → ((key : List ℕ) → HasRun (parts_in root n (active_remove active.owner key active.above active.below) by_above u by_below r) new call)
-    → HasRun (parts_in root n (Some active) by_above u by_below r) new call
-finish_any root n by_above by_below u r active new call runs = any active.begun refl where
-  any : (begun : Begun) → active.begun ≡ begun → HasRun (parts_in root n (Some active) by_above u by_below r) new call
-  any (Remove key) is =
-      subst (λ (b : Begun). HasRun (parts_in root n (Some (record { owner = active.owner; begun = b; above = active.above; below = active.below })) by_above u by_below r) new call) (sym is) (runs key)
 
 pub aborted_any : (root : List ℕ) (n : ℕ) (by_above by_below : Constants → Rules) (u u' r r' : KvState) (who : ℕ) (active : Active) → active.owner ≡ who → (reply reply_too : Reply)
     → Answers by_above u u' (answered who Abort reply) → Answers by_below r r' (answered who Abort reply_too)
@@ -157,9 +161,18 @@ module _ (root : List ℕ) (n : ℕ) (by_above by_below : Constants → Rules) (
       subst (λ (a : Option Active). HasRun (parts_in root n a by_above u by_below r) (parts_in root n next by_above u' by_below r') call) (sym taken)
       (subst (λ (a : Option Active). HasRun (parts_in root n (Some active) by_above u by_below r) (parts_in root n a by_above u' by_below r') call) (sym gone) run)
 
-  pub finished_by : (who : ℕ) → active.owner ≡ who
-      → ((key : List ℕ) → HasRun (parts_in root n (active_remove who key active.above active.below) by_above u by_below r) (parts root n by_above u' by_below r') call)
+  -- of the caller who began it
+  pub finished_by : (who : ℕ) (operation : Operation) (reply : Reply) → active.owner ≡ who → call ≡ answered who operation reply
+      → HasRun (parts_in root n (Some active) by_above u by_below r) (parts root n by_above u' by_below r') (answered active.owner operation reply)
       → HasRun (parts_in root n before by_above u by_below r) (parts_in root n next by_above u' by_below r') call
-  finished_by who own runs =
-      ended_by (finish_any root n by_above by_below u r active (parts root n by_above u' by_below r') call
-      (subst (λ (o : ℕ). (key : List ℕ) → HasRun (parts_in root n (active_remove o key active.above active.below) by_above u by_below r) (parts root n by_above u' by_below r') call) (sym own) runs))
+  finished_by who operation reply own is run =
+      ended_by (subst (λ (c : Answered). HasRun (parts_in root n (Some active) by_above u by_below r) (parts root n by_above u' by_below r') c)
+      (ap (λ (o : ℕ). answered o operation reply) own ∙ sym is) run)
+
+-- what goes on, of the caller who began it
+pub went_on : (root : List ℕ) (n : ℕ) (by_above by_below : Constants → Rules) (u r : KvState) (before : Option Active) (active : Active) (new : Parts) (who : ℕ) (operation : Operation) (reply : Reply)
+    → before ≡ Some active → active.owner ≡ who → HasRun (parts_in root n (Some active) by_above u by_below r) new (answered active.owner operation reply)
+    → HasRun (parts_in root n before by_above u by_below r) new (answered who operation reply)
+went_on root n by_above by_below u r before active new who operation reply taken own run =
+    subst (λ (a : Option Active). HasRun (parts_in root n a by_above u by_below r) new (answered who operation reply)) (sym taken)
+    (subst (λ (o : ℕ). HasRun (parts_in root n (Some active) by_above u by_below r) new (answered o operation reply)) own run)

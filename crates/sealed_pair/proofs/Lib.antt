@@ -6,16 +6,17 @@ mod HealingLemmas
 mod HeldLemmas
 mod IdleLemmas
 mod InfoLemmas
+mod MovingLemmas
 mod PartlyLemmas
+mod PieceFinishLemmas
+mod PieceRunLemmas
 mod RecoveringLemmas
 mod RemovingLemmas
 mod ResetLemmas
 mod SettingCheckLemmas
 mod SettingFillLemmas
 mod SettingFinishLemmas
-mod SettingLemmas
 mod SettingPartLemmas
-mod SettingRunLemmas
 mod SettingStartLemmas
 mod StayingLemmas
 mod TryingLemmas
@@ -35,6 +36,7 @@ pub mod OpeningLemmas
 pub mod OtherKeyLemmas
 pub mod OtherViewLemmas
 pub mod PairLemmas
+pub mod PieceLemmas
 pub mod ProtectedLemmas
 pub mod ReadStepLemmas
 pub mod ReadingLemmas
@@ -44,6 +46,8 @@ pub mod RulesLemmas
 pub mod RunningLemmas
 pub mod SealLemmas
 pub mod SetLemmas
+pub mod SettingLemmas
+pub mod SettingRunLemmas
 pub mod StoreReadLemmas
 pub mod ViewLemmas
 pub mod ViewingLemmas

@@ -9,7 +9,7 @@ use Rattle.kv_model.specs.declared.error.KvError.{KvError}
 use Rattle.kv_model.specs.declared.error.KvError.TheVariants as error
 use Rattle.kv_model.specs.declared.flags.Flags.{Flags}
 use Rattle.kv_model.specs.declared.call.Reply.TheVariants.{Refused}
-use Rattle.kv_model.specs.Checks.{Check, first_refusal}
+use Rattle.kv_model.specs.Checks.{Check, first_refusal, may_fail_reading}
 use Rattle.kv_model.specs.Constants.{Constants}
 use Rattle.kv_model.specs.FlaggedMap.{FlaggedMap, Stored}
 use Rattle.kv_model.specs.Flags.{is_mirrored, is_secure_flags, is_write_once}
@@ -17,8 +17,8 @@ use Rattle.kv_model.specs.Keys.{is_key}
 use Rattle.kv_model.specs.Opening.{Opening}
 use Rattle.kv_model.specs.PlainStep.{flags_in}
 use Rattle.kv_model.specs.StoreState.{StoreState, prior_in, tag_in}
-use Rattle.kv_model.specs.Rules.{Rules, refused_or}
-use Rattle.kv_model.specs.Operations.{Info, Set}
+use Rattle.kv_model.specs.Rules.{Rules, refused_or, refuses}
+use Rattle.kv_model.specs.Operations.{Info, Operation}
 use Rattle.kv_model.specs.Kv.{IsCause, Kind, KvState, LeadsTo, answered, kind_of, may_end, Ruled, FailedRead, FailedWrite, Mismatched, Wanted}
 use Rattle.sealed_pair.specs.declared.limits.TheConstants.{MAX_SECURE_VALUE}
 use Rattle.sealed_pair.specs.declared.setting.Tagged.{Tagged}
@@ -33,7 +33,7 @@ use Rattle.sealed_pair.specs.Store.{joined}
 use Rattle.sealed_pair.proofs.BehindLemmas.{run_refused}
 use Rattle.sealed_pair.proofs.PairLemmas.{carries_above, carries_below, cause_carried, read_none}
 use Rattle.sealed_pair.proofs.SettingLemmas.{past, running_step}
-use Rattle.sealed_pair.proofs.SettingRunLemmas.{set_ends, set_may_read, small_size}
+use Rattle.sealed_pair.proofs.SettingRunLemmas.{AsksSet, set_may_read, small_size}
 
 tells_idle : {by : Constants → Rules} {s : KvState} {state : StoreState} → IsIdle by s state → TellsPlain by s state
 tells_idle idle = record { rules = idle.rules; told = idle.told; running = idle.running }
@@ -216,31 +216,38 @@ unspent_number number flags small unspent numbered =
       same_number : (a b : ℕ) → a ≡ b → (a == b) ≡ true
       same_number a b is = grind (arith, nat_tests)
 
-module _ (root : List ℕ) (number : ℕ) (by_above by_below : Constants → Rules) (u u' r r' : KvState) (who : ℕ) (key value : List ℕ) (flags : ℕ) where
+module _ (root : List ℕ) (number : ℕ) (by_above by_below : Constants → Rules) (u u' r r' : KvState) (who : ℕ) (key : List ℕ) (size flags : ℕ) (operation : Operation)
+    (asks : AsksSet operation key size flags) where
   abbrev rules_here : Rules
   rules_here = secure_rules (pair_constants root u.known.constants r.known.constants)
 
-  leads_by : (state : StoreState) (e : KvError) (kind : Kind) → state.doubt ≡ None → RefusesBy (set_checks (pair_constants root u.known.constants r.known.constants) state who key (length value) flags) e kind
-      → LeadsTo rules_here state (answered who (Set key value flags) (Refused e)) state kind
+  leads_by : (state : StoreState) (e : KvError) (kind : Kind) → state.doubt ≡ None → RefusesBy (set_checks (pair_constants root u.known.constants r.known.constants) state who key size flags) e kind
+      → LeadsTo rules_here state (answered who operation (Refused e)) state kind
   leads_by state e Ruled running refuses_it =
-      running_step rules_here state who (Set key value flags) running ∙ ap (λ (o : Option KvError). refused_or rules_here state who (Set key value flags) o) refuses_it
-  leads_by state e FailedRead running refuses_it = (running, refuses_it.1, ap (λ (f : KvError). record { state = state; reply = Refused f }) refuses_it.0)
+      running_step rules_here state who operation running
+      ∙ ap (λ (o : Option KvError). refused_or rules_here state who operation o) (ap first_refusal (asks.checks (pair_constants root u.known.constants r.known.constants) state who) ∙ refuses_it)
+      ∙ ap (λ (s : StoreState). refuses s e) (asks.stays state e)
+  leads_by state e FailedRead running refuses_it = (
+    running,
+    subst (λ (l : List Check). IsTrue (may_fail_reading l)) (sym (asks.checks (pair_constants root u.known.constants r.known.constants) state who)) refuses_it.1,
+    ap (λ (f : KvError). record { state = state; reply = Refused f }) refuses_it.0,
+  )
   leads_by state e FailedWrite running refuses_it = absurd refuses_it
   leads_by state e Mismatched running refuses_it = absurd refuses_it
   leads_by state e Wanted running refuses_it = absurd refuses_it
 
-  pub set_refused : HasRead u u' → HasRead r r' → (e : KvError) → IsRefusedSet (parts root number by_above u by_below r) (parts root number by_above u' by_below r') key (length value) flags e
-      → HasRun (parts root number by_above u by_below r) (parts root number by_above u' by_below r') (answered who (Set key value flags) (Refused e))
+  pub set_refused : HasRead u u' → HasRead r r' → (e : KvError) → IsRefusedSet (parts root number by_above u by_below r) (parts root number by_above u' by_below r') key size flags e
+      → HasRun (parts root number by_above u by_below r) (parts root number by_above u' by_below r') (answered who operation (Refused e))
   set_refused one two e refused =
-      run_refused root number by_above by_below u u' r r' one two who (Set key value flags) e refused.cause (set_ends key value flags (kind_of (Refused e)))
+      run_refused root number by_above by_below u u' r r' one two who operation e refused.cause (asks.ends (kind_of (Refused e)))
       (λ above below idle idle_too. leads_by (joined number above below) e (kind_of (Refused e)) refl (refused.leads above below idle idle_too who))
 
   -- its key is none
   pub set_unnamed : (e : KvError) → e ≡ error.InvalidKey → is_key key ≡ false
-      → HasRun (parts root number by_above u by_below r) (parts root number by_above u by_below r) (answered who (Set key value flags) (Refused e))
+      → HasRun (parts root number by_above u by_below r) (parts root number by_above u by_below r) (answered who operation (Refused e))
   set_unnamed e is bad =
-      subst (λ (f : KvError). HasRun (parts root number by_above u by_below r) (parts root number by_above u by_below r) (answered who (Set key value flags) (Refused f))) (sym is)
-      (run_refused root number by_above by_below u u r r (read_none u) (read_none r) who (Set key value flags) error.InvalidKey (λ before after. tt) refl
+      subst (λ (f : KvError). HasRun (parts root number by_above u by_below r) (parts root number by_above u by_below r) (answered who operation (Refused f))) (sym is)
+      (run_refused root number by_above by_below u u r r (read_none u) (read_none r) who operation error.InvalidKey (λ before after. tt) (asks.ends Ruled)
       (λ above below idle idle_too. leads_by (joined number above below) error.InvalidKey Ruled refl (unnamed (joined number above below)))) where
-        unnamed : (state : StoreState) → first_refusal (set_checks (pair_constants root u.known.constants r.known.constants) state who key (length value) flags) ≡ Some error.InvalidKey
+        unnamed : (state : StoreState) → first_refusal (set_checks (pair_constants root u.known.constants r.known.constants) state who key size flags) ≡ Some error.InvalidKey
         unnamed state = stops_here (not (is_key key)) error.InvalidKey _ (ap not bad)

@@ -33,46 +33,46 @@ use Rattle.sealed_pair.proofs.SettingLemmas.{moved_gone, moved_then, past, runni
 use Rattle.sealed_pair.proofs.SettingFillLemmas.{mirrored_whole, unmirrored_whole}
 use Rattle.sealed_pair.proofs.SettingRunLemmas.{admitted_first, admitted_writes, set_ends}
 
-no_finish_prepares : Prepares Finish → ⊥
+pub no_finish_prepares : Prepares Finish → ⊥
 no_finish_prepares (inl may) = false≢true may
 no_finish_prepares (inr may) = false≢true may
 
-same_who : (n : ℕ) → not (n == n) ≡ false
+pub same_who : (n : ℕ) → not (n == n) ≡ false
 same_who n = grind (arith, nat_tests)
 
-enough : (a b : ℕ) → a ≡ b → nat_lt a b ≡ false
+pub enough : (a b : ℕ) → a ≡ b → nat_lt a b ≡ false
 enough a b same = grind (arith, nat_tests)
 
 module _ (who : ℕ) (key : List ℕ) (flags : ℕ) (bytes : List ℕ) (size : ℕ) (long : length bytes ≡ size + SEAL_SIZE) where
   -- the maps of the two stores with the record and its tag
-  abbrev recorded : FlaggedMap → FlaggedMap
+  abbrev pub recorded : FlaggedMap → FlaggedMap
   recorded m = insert m key (record_entry flags bytes)
 
-  abbrev tagged : FlaggedMap → FlaggedMap
+  abbrev pub tagged : FlaggedMap → FlaggedMap
   tagged m = if is_mirrored flags then insert m key (tag_entry flags bytes) else m
 
-  abbrev filled_above : StoreState → StoreState
+  abbrev pub filled_above : StoreState → StoreState
   filled_above s = record s { open_set = Some (record_set who key size flags bytes) }
 
-  abbrev filled_below : StoreState → StoreState
+  abbrev pub filled_below : StoreState → StoreState
   filled_below s = record s { open_set = Some (record (begun_set who key (kept_flags flags) 16 None) { bytes = tag_of bytes }) }
 
-  abbrev finished_above : StoreState → StoreState
+  abbrev pub finished_above : StoreState → StoreState
   finished_above s = record s { primary = recorded s.primary; open_set = None }
 
-  abbrev finished_below : StoreState → StoreState
+  abbrev pub finished_below : StoreState → StoreState
   finished_below s = record s { primary = tagged s.primary; open_set = None }
 
-  finishes_above : (c : Constants) (s : StoreState) → IsStill s → step (plain_rules c) (filled_above s) who Finish ≡ record { state = finished_above s; reply = Done }
+  pub finishes_above : (c : Constants) (s : StoreState) → IsStill s → step (plain_rules c) (filled_above s) who Finish ≡ record { state = finished_above s; reply = Done }
   finishes_above c s still =
       running_step (plain_rules c) (filled_above s) who Finish still.running
       ∙ ap (λ (o : Option KvError). refused_or (plain_rules c) (filled_above s) who Finish o)
       (past (not (who == who)) error.NoSet _ (same_who who) ∙ past (nat_lt (length bytes) (size + SEAL_SIZE)) error.InvalidSize None (enough (length bytes) (size + SEAL_SIZE) long))
 
-  long_tag : length (tag_of bytes) ≡ 16
+  pub long_tag : length (tag_of bytes) ≡ 16
   long_tag = omega (arith, length-drop (length bytes - 16) bytes, long)
 
-  finishes_below : (c : Constants) (s : StoreState) → is_mirrored flags ≡ true → IsStill s → step (plain_rules c) (filled_below s) who Finish ≡ record { state = finished_below s; reply = Done }
+  pub finishes_below : (c : Constants) (s : StoreState) → is_mirrored flags ≡ true → IsStill s → step (plain_rules c) (filled_below s) who Finish ≡ record { state = finished_below s; reply = Done }
   finishes_below c s mirrored still =
       subst (λ (b : Bool). step (plain_rules c) (filled_below s) who Finish ≡ record { state = record s { primary = if b then insert s.primary key (tag_entry flags bytes) else s.primary; open_set = None }; reply = Done })
       (sym mirrored)
@@ -80,10 +80,10 @@ module _ (who : ℕ) (key : List ℕ) (flags : ℕ) (bytes : List ℕ) (size : �
       ∙ ap (λ (o : Option KvError). refused_or (plain_rules c) (filled_below s) who Finish o)
       (past (not (who == who)) error.NoSet _ (same_who who) ∙ past (nat_lt (length (tag_of bytes)) 16) error.InvalidSize None (enough (length (tag_of bytes)) 16 long_tag)))
 
-  above_still : (s : StoreState) → IsStill s → IsStill (finished_above s)
+  pub above_still : (s : StoreState) → IsStill s → IsStill (finished_above s)
   above_still s still = record { running = still.running; holds = refl }
 
-  below_still : (s : StoreState) → IsStill s → IsStill (finished_below s)
+  pub below_still : (s : StoreState) → IsStill s → IsStill (finished_below s)
   below_still s still = record { running = still.running; holds = refl }
 
   cleared_still : (s : StoreState) → IsStill s → IsStill (record s { open_set = None })

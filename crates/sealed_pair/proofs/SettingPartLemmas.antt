@@ -113,7 +113,7 @@ pub bytes_fail : (by : Constants → Rules) (s s' : KvState) (who : ℕ) (bytes 
     → length bytes ≤ total → FailsToAdd (calls by s s' who) total e
 bytes_fail by s s' who bytes total e answers lawful less set room = add_failed by s s' who bytes set (less_room who set total (length bytes) room less) e answers lawful
 
-stored_none : (root key : List ℕ) (flags vector : ℕ) → stored root key flags vector [] ≡ []
+pub stored_none : (root key : List ℕ) (flags vector : ℕ) → stored root key flags vector [] ≡ []
 stored_none root key flags vector = none (stored root key flags vector []) (length-stored root key flags vector []) where
   none : (l : List ℕ) → length l ≡ 0 → l ≡ []
   none [] is = refl

@@ -6,20 +6,20 @@ use mathlib.Core.Bool.{false≢true, true≢false}
 use Rattle.kv_model.specs.declared.error.KvError.{KvError}
 use Rattle.kv_model.specs.declared.error.KvError.TheVariants as error
 use Rattle.kv_model.specs.declared.call.Reply.TheVariants.{Refused}
-use Rattle.kv_model.specs.Checks.{first_refusal, may_fail_reading, may_fail_writing}
+use Rattle.kv_model.specs.Checks.{Check, first_refusal, may_fail_reading, may_fail_writing}
 use Rattle.kv_model.specs.Constants.{Constants}
 use Rattle.kv_model.specs.Flags.{is_secure_flags, is_write_once}
 use Rattle.kv_model.specs.Keys.{is_key}
 use Rattle.kv_model.specs.StoreState.{StoreState}
-use Rattle.kv_model.specs.Operations.{Operation, Set}
+use Rattle.kv_model.specs.Operations.{Operation, Set, Start}
 use Rattle.kv_model.specs.PlainStep.{flags_in}
-use Rattle.kv_model.specs.Rules.{Rules, refused_or, refuses, step}
+use Rattle.kv_model.specs.Rules.{Rules, after_refusal, refused_or, refuses, step}
 use Rattle.kv_model.proofs.LimitLemmas.{unrefused}
 use Rattle.kv_model.specs.Kv.{IsLawful, Kind, KvState, LeadsTo, UnlessFailedWrite, answered, kind_of, may_end, Ruled, FailedRead, FailedWrite, Mismatched, Wanted}
 use Rattle.sealed_pair.specs.declared.limits.TheConstants.{MAX_SECURE_VALUE}
 use Rattle.sealed_pair.specs.Pair.{pair_constants}
 use Rattle.sealed_pair.specs.Running.{HasEnded, HasRun, HasStopped, IsIdle, Parts, StaysIdle, WhereRun, parts, rules_of}
-use Rattle.sealed_pair.specs.SecureStep.{is_protected, is_spent, needed, set_checks, unmirrors}
+use Rattle.sealed_pair.specs.SecureStep.{is_protected, is_spent, needed, secure_rules, set_checks, unmirrors}
 use Rattle.sealed_pair.specs.Setting.{Failure, FailsSet, HasFailedSet, HasGivenUp, HasMoved, IsAdmitted, StartsBy, StartsSet, room_checks}
 use Rattle.sealed_pair.specs.Store.{joined}
 use Rattle.sealed_pair.proofs.BehindLemmas.{tells_either}
@@ -223,10 +223,30 @@ set_ends key value flags FailedWrite = refl
 set_ends key value flags Mismatched = refl
 set_ends key value flags Wanted = refl
 
+start_ends : (key : List ℕ) (size flags : ℕ) (kind : Kind) → IsTrue (may_end (Start key size flags) kind)
+start_ends key size flags Ruled = refl
+start_ends key size flags FailedRead = refl
+start_ends key size flags FailedWrite = refl
+start_ends key size flags Mismatched = refl
+start_ends key size flags Wanted = refl
+
+-- what a set of so many bytes and the start of one have in common: they differ in what they do alone
+pub record AsksSet (operation : Operation) (key : List ℕ) (size flags : ℕ) : Type 0 where
+  pub checks : (c : Constants) (state : StoreState) (who : ℕ) → (secure_rules c).checks state who operation ≡ set_checks c state who key size flags
+  pub stays : (state : StoreState) (e : KvError) → after_refusal state operation e ≡ state
+  pub ends : (kind : Kind) → IsTrue (may_end operation kind)
+
+pub asks_set : (key value : List ℕ) (flags : ℕ) → AsksSet (Set key value flags) key (length value) flags
+asks_set key value flags = record { checks = λ c state who. refl; stays = λ state e. refl; ends = set_ends key value flags }
+
+pub asks_start : (key : List ℕ) (size flags : ℕ) → AsksSet (Start key size flags) key size flags
+asks_start key size flags = record { checks = λ c state who. refl; stays = λ state e. refl; ends = start_ends key size flags }
+
 -- ---- a set that is admitted, and of which nothing came
 
-module _ (root : List ℕ) (number : ℕ) (by_above by_below : Constants → Rules) (u r u' r' : KvState) (who : ℕ) (key value : List ℕ) (flags : ℕ) (prior : Option (List ℕ))
-    (admitted : IsAdmitted (parts root number by_above u by_below r) key (length value) flags prior) (lawful : IsLawful by_above u') (lawful_too : IsLawful by_below r') (e : KvError) where
+module _ (root : List ℕ) (number : ℕ) (by_above by_below : Constants → Rules) (u r u' r' : KvState) (who : ℕ) (key : List ℕ) (size flags : ℕ) (prior : Option (List ℕ))
+    (operation : Operation) (asks : AsksSet operation key size flags)
+    (admitted : IsAdmitted (parts root number by_above u by_below r) key size flags prior) (lawful : IsLawful by_above u') (lawful_too : IsLawful by_below r') (e : KvError) where
   abbrev before : Parts
   before = parts root number by_above u by_below r
 
@@ -239,47 +259,55 @@ module _ (root : List ℕ) (number : ℕ) (by_above by_below : Constants → Rul
   abbrev both_constants : Constants
   both_constants = pair_constants root u.known.constants r.known.constants
 
+  checks_are : (above below : StoreState) → set_checks both_constants (at_both above below) who key size flags ≡ (rules_of before).checks (at_both above below) who operation
+  checks_are above below = sym (asks.checks both_constants (at_both above below) who)
+
   -- how its start ended
   abbrev By : StoreState → StoreState → Kind → Type 0
-  By above below kind = StartsBy (room_checks both_constants (at_both above below) key (length value) flags) (nat_lt both_constants.room (needed both_constants (at_both above below) key (length value))) e kind
+  By above below kind = StartsBy (room_checks both_constants (at_both above below) key size flags) (nat_lt both_constants.room (needed both_constants (at_both above below) key size)) e kind
 
   -- its start failed
-  pub start_given_up : HasGivenUp before after None None (record { begins = true; error = e }) → StartsSet before key (length value) flags (Err e)
-      → HasRun before after (answered who (Set key value flags) (Refused e))
+  pub start_given_up : HasGivenUp before after None None (record { begins = true; error = e }) → StartsSet before key size flags (Err e)
+      → HasRun before after (answered who operation (Refused e))
   start_given_up given_up starts =
-      run_given_up root number by_above by_below u r u' r' who (Set key value flags) (record { begins = true; error = e }) (set_ends key value flags) ruled reads writes given_up lawful lawful_too where
-        ruled : kind_of (Refused e) ≡ Ruled → WhereRun before (λ above below. step (rules_of before) (at_both above below) who (Set key value flags) ≡ refuses (at_both above below) e)
+      run_given_up root number by_above by_below u r u' r' who operation (record { begins = true; error = e }) asks.ends ruled reads writes given_up lawful lawful_too where
+        ruled : kind_of (Refused e) ≡ Ruled → WhereRun before (λ above below. step (rules_of before) (at_both above below) who operation ≡ refuses (at_both above below) e)
         ruled is above below idle idle_too =
-            running_step (rules_of before) (at_both above below) who (Set key value flags) refl
-            ∙ ap (λ (o : Option KvError). refused_or (rules_of before) (at_both above below) who (Set key value flags) o)
-            (admitted_first before key (length value) flags prior admitted above below idle idle_too who ∙ subst (By above below) is (starts above below idle idle_too))
+            running_step (rules_of before) (at_both above below) who operation refl
+            ∙ ap (λ (o : Option KvError). refused_or (rules_of before) (at_both above below) who operation o)
+            (ap first_refusal (sym (checks_are above below)) ∙ admitted_first before key size flags prior admitted above below idle idle_too who ∙ subst (By above below) is (starts above below idle idle_too))
+            ∙ ap (λ (s : StoreState). refuses s e) (asks.stays (at_both above below) e)
 
-        reads : WhereRun before (λ above below. IsTrue (may_fail_reading ((rules_of before).checks (at_both above below) who (Set key value flags))))
-        reads above below idle idle_too = admitted_reads before key (length value) flags prior admitted above below idle idle_too who
+        reads : WhereRun before (λ above below. IsTrue (may_fail_reading ((rules_of before).checks (at_both above below) who operation)))
+        reads above below idle idle_too =
+            subst (λ (l : List Check). IsTrue (may_fail_reading l)) (checks_are above below) (admitted_reads before key size flags prior admitted above below idle idle_too who)
 
-        writes : kind_of (Refused e) ≡ FailedWrite → WhereRun before (λ above below. IsTrue (may_fail_writing ((rules_of before).checks (at_both above below) who (Set key value flags))))
+        writes : kind_of (Refused e) ≡ FailedWrite → WhereRun before (λ above below. IsTrue (may_fail_writing ((rules_of before).checks (at_both above below) who operation)))
         writes is above below idle idle_too =
-            admitted_writes before key (length value) flags prior admitted above below idle idle_too who (subst (By above below) is (starts above below idle idle_too))
+            subst (λ (l : List Check). IsTrue (may_fail_writing l)) (checks_are above below)
+            (admitted_writes before key size flags prior admitted above below idle idle_too who (subst (By above below) is (starts above below idle idle_too)))
 
   -- its bytes could not be added
-  pub fill_given_up : HasGivenUp before after None None (record { begins = false; error = e }) → StartsSet before key (length value) flags (Ok tt)
-      → HasRun before after (answered who (Set key value flags) (Refused e))
+  pub fill_given_up : HasGivenUp before after None None (record { begins = false; error = e }) → StartsSet before key size flags (Ok tt)
+      → HasRun before after (answered who operation (Refused e))
   fill_given_up given_up starts =
-      run_given_up root number by_above by_below u r u' r' who (Set key value flags) (record { begins = false; error = e }) (set_ends key value flags) ruled reads writes given_up lawful lawful_too where
+      run_given_up root number by_above by_below u r u' r' who operation (record { begins = false; error = e }) asks.ends ruled reads writes given_up lawful lawful_too where
         never : (above below : StoreState) → IsIdle by_above u above → IsIdle by_below r below → kind_of (Refused e) ≡ Ruled → HasGivenUp before after None None (record { begins = false; error = e }) → ⊥
         never above below idle idle_too is (inl failed) =
             false≢true (subst (λ (kind : Kind). FailsSet u' (record { begins = false; error = e }) above kind) is (failed.0.told above (at_idle idle))).0
         never above below idle idle_too is (inr failed) =
             false≢true (subst (λ (kind : Kind). FailsSet r' (record { begins = false; error = e }) below kind) is (failed.1.told below (at_idle idle_too))).0
 
-        ruled : kind_of (Refused e) ≡ Ruled → WhereRun before (λ above below. step (rules_of before) (at_both above below) who (Set key value flags) ≡ refuses (at_both above below) e)
+        ruled : kind_of (Refused e) ≡ Ruled → WhereRun before (λ above below. step (rules_of before) (at_both above below) who operation ≡ refuses (at_both above below) e)
         ruled is above below idle idle_too = absurd (never above below idle idle_too is given_up)
 
-        reads : WhereRun before (λ above below. IsTrue (may_fail_reading ((rules_of before).checks (at_both above below) who (Set key value flags))))
-        reads above below idle idle_too = admitted_reads before key (length value) flags prior admitted above below idle idle_too who
+        reads : WhereRun before (λ above below. IsTrue (may_fail_reading ((rules_of before).checks (at_both above below) who operation)))
+        reads above below idle idle_too =
+            subst (λ (l : List Check). IsTrue (may_fail_reading l)) (checks_are above below) (admitted_reads before key size flags prior admitted above below idle idle_too who)
 
-        writes : kind_of (Refused e) ≡ FailedWrite → WhereRun before (λ above below. IsTrue (may_fail_writing ((rules_of before).checks (at_both above below) who (Set key value flags))))
+        writes : kind_of (Refused e) ≡ FailedWrite → WhereRun before (λ above below. IsTrue (may_fail_writing ((rules_of before).checks (at_both above below) who operation)))
         writes is above below idle idle_too =
-            admitted_writes before key (length value) flags prior admitted above below idle idle_too who
-            (unrefused (nat_lt both_constants.room (needed both_constants (at_both above below) key (length value)))
-            (error.MediaFull (needed both_constants (at_both above below) key (length value)) both_constants.room) _ (starts above below idle idle_too)).0
+            subst (λ (l : List Check). IsTrue (may_fail_writing l)) (checks_are above below)
+            (admitted_writes before key size flags prior admitted above below idle idle_too who
+            (unrefused (nat_lt both_constants.room (needed both_constants (at_both above below) key size))
+            (error.MediaFull (needed both_constants (at_both above below) key size) both_constants.room) _ (starts above below idle idle_too)).0)

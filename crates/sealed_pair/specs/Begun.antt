@@ -8,7 +8,8 @@ use Rattle.kv_model.specs.Operations.{Finish, RemoveStart}
 use Rattle.kv_model.specs.Rules.{Rules}
 use Rattle.kv_model.specs.Kv.{KvState}
 use Rattle.sealed_pair.specs.declared.active.Active.{Active}
-use Rattle.sealed_pair.specs.declared.active.Begun.TheVariants.{Remove}
+use Rattle.sealed_pair.specs.declared.partial.PartialSet.{PartialSet}
+use Rattle.sealed_pair.specs.declared.active.Begun.TheVariants.{Remove, Set}
 use Rattle.sealed_pair.specs.Active.{own_of, share_above, share_below}
 use Rattle.sealed_pair.specs.Going.{Work}
 use Rattle.sealed_pair.specs.Running.{Parts}
@@ -21,7 +22,7 @@ parts_in root number active above primary below rollback = record {
   own = own_of number active;
   above = above;
   primary = primary;
-  share_above = share_above active;
+  share_above = share_above root number active;
   below = below;
   rollback = rollback;
   share_below = share_below active;
@@ -30,6 +31,15 @@ parts_in root number active above primary below rollback = record {
 -- a remove, and whether it was begun in the primary store and in the rollback store
 abbrev pub active_remove : ℕ → List ℕ → Bool → Bool → Option Active
 active_remove who key above below = Some (record { owner = who; begun = Remove key; above = above; below = below })
+
+-- a set in pieces; it says nothing of where it was begun
+abbrev pub active_set : ℕ → PartialSet → Bool → Bool → Option Active
+active_set who set above below = Some (record { owner = who; begun = Set set; above = above; below = below })
+
+-- what is active once a call on it was answered so
+abbrev pub set_or : ℕ → Bool → Bool → Result PartialSet KvError → Option Active
+set_or who above below (Ok set) = active_set who set above below
+set_or who above below (Err error) = None
 
 -- what is active once a call that begins was answered so
 abbrev pub begun_or : Result Active KvError → Option Active

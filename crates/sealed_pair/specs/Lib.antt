@@ -6,6 +6,7 @@ pub mod Heal
 pub mod Laws
 pub mod Limits
 pub mod Pair
+pub mod Pieces
 pub mod Reading
 pub mod Recovering
 pub mod Removing

@@ -11,9 +11,10 @@ use Rattle.kv_model.specs.FlaggedMap.{Stored}
 use Rattle.kv_model.specs.Flags.{is_mirrored, is_secure_flags, is_write_once}
 use Rattle.kv_model.specs.Keys.{is_key}
 use Rattle.kv_model.specs.StoreState.{Maps, OpenSet, StoreState, begun_set, prior_in, tag_in}
+use Rattle.kv_model.specs.Operations.{Add}
 use Rattle.kv_model.specs.PlainStep.{flags_in, plain_rules}
 use Rattle.kv_model.specs.Rules.{Rules, number_taken}
-use Rattle.kv_model.specs.Kv.{IsCause, Keeps, Kind, KvState, TellsOnly, UnlessFailedWrite, kind_of, Ruled, FailedRead, FailedWrite, Mismatched, Wanted}
+use Rattle.kv_model.specs.Kv.{IsCause, Keeps, Kind, KvState, TellsOnly, UnlessFailedWrite, kind_of, may_end, Ruled, FailedRead, FailedWrite, Mismatched, Wanted}
 use Rattle.secure_record.specs.declared.metadata.Metadata.{Metadata}
 use Rattle.secure_record.specs.Sealed.{seal, sealed_metadata, stored}
 use Rattle.secure_record.specs.States.{SealState}
@@ -93,7 +94,7 @@ pub record IsRefusedSet (old new : Parts) (key : List ℕ) (size flags : ℕ) (e
       error (kind_of (Refused error)))
 
 -- the next number after a set, and whether it is still one
-abbrev pub number_left : ℕ → ℕ → Result Unit KvError → ℕ
+abbrev pub number_left : {T : Type 0} → ℕ → ℕ → Result T KvError → ℕ
 number_left number flags (Ok done) = number_taken (is_numbered flags) number
 number_left number flags (Err error) = number
 
@@ -200,6 +201,10 @@ abbrev pub FailsToAdd : Calls → ℕ → KvError → Type 0
 FailsToAdd c n error = (set : OpenSet) → HasRoomFor c.who set n
     → HasFailedSet c.rules_by c.old c.new (Some set) (record { begins = false; error = error })
 
+-- how an add may end that is refused
+abbrev pub MayRefuse : KvError → Type 0
+MayRefuse error = IsTrue (may_end (Add []) (kind_of (Refused error)))
+
 -- a part of a value was sealed, and its stored bytes were added
 pub record HasAddedPart (c : Calls) (old new : SealState) (value : List ℕ) : Type 0 where
   pub bytes : List ℕ
@@ -251,7 +256,7 @@ pub record IsFilled (old new : Parts) (a : Asked) (bytes : List ℕ) : Type 0 wh
   pub room : StartsSet old a.key (length a.value) a.flags (Ok tt)
 
 -- where a set took a number there is a next one
-abbrev pub TakesOne : ℕ → ℕ → Result Unit KvError → Type 0
+abbrev pub TakesOne : {T : Type 0} → ℕ → ℕ → Result T KvError → Type 0
 TakesOne number flags (Ok done) = is_numbered flags ≡ true → number + 1 ≤ last_number
 TakesOne number flags (Err error) = error ≡ WriteFault → is_numbered flags ≡ true → number + 1 ≤ last_number
 

@@ -22,3 +22,8 @@ abbrev pub Holds : Share → StoreState → Type 0
 Holds NoShare state = state.open_set ≡ None
 Holds (HasSet set) state = state.open_set ≡ Some set
 Holds (LacksKey key) state = (state.open_set ≡ None) × (get state.primary key ≡ None)
+
+-- a store in which this set is active, or none
+abbrev pub share_of : Option OpenSet → Share
+share_of None = NoShare
+share_of (Some set) = HasSet set

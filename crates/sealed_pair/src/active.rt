@@ -1,7 +1,8 @@
 // The set that is active.
 ghost use Rattle.std.specs.Prelude.{◌≡◌, Some, None, MatchResult};
-ghost use Rattle.sealed_pair.specs.Active.{TakesOwn, owns, taken};
+ghost use Rattle.sealed_pair.specs.Active.{TakesOwn, may_take, taken};
 
+use crate::partial::PartialSet;
 use kv_model::{Key, KvError};
 
 /// What its owner has begun.
@@ -9,6 +10,8 @@ use kv_model::{Key, KvError};
 pub enum Begun {
     /// A remove that the finish completes, in each store that has the key.
     Remove { key: Key },
+    /// A set of which a record is made in the primary store, piece by piece.
+    Set { set: PartialSet },
 }
 
 /// What was begun, its owner, and whether it was begun in the primary store and in the rollback
@@ -55,12 +58,12 @@ pub fn take_own(active: &mut Option<Active>, who: u8) -> Option<Active>
     }
 }
 
-/// Whether the caller has begun something.
-pub fn owns(active: &Option<Active>, who: u8) -> bool
-    ensures { result ≡ owns active.now who }
+/// Whether so many bytes more may be added to what was begun.
+pub fn may_take(begun: &Begun, count: usize) -> bool
+    ensures { result ≡ may_take begun.now count }
 {
-    match active {
-        None => false,
-        Some(active) => active.owner == who,
+    match begun {
+        Begun::Remove { .. } => count == 0,
+        Begun::Set { set } => count <= set.left as usize,
     }
 }

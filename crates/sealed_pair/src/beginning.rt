@@ -1,10 +1,10 @@
 // A remove that is begun, on the two stores.
-ghost use Rattle.std.specs.Prelude.{◌≡◌, ◌&&◌, ℕ, true, false, is_none, is_some, List};
+ghost use Rattle.std.specs.Prelude.{◌≡◌, ◌&&◌, ℕ, true, false, is_none, is_some, IfOk, List};
 ghost use Rattle.kv_model.specs.Given.{done_or};
 ghost use Rattle.kv_model.specs.Kv.{answered};
 ghost use Rattle.kv_model.specs.Keys.{is_key};
 ghost use Rattle.kv_model.specs.Operations.{RemoveStart};
-ghost use Rattle.sealed_pair.specs.Active.{share_of_remove};
+ghost use Rattle.sealed_pair.specs.Active.{IsBegun, share_of_remove};
 ghost use Rattle.sealed_pair.specs.Begun.{begins_remove, begun_or, parts_in, removing_or};
 ghost use Rattle.sealed_pair.specs.Going.{Tries, WhereStill};
 ghost use Rattle.sealed_pair.specs.Removing.{HeldAs};
@@ -69,11 +69,13 @@ pub fn begin_both<U: Kv, R: Kv>(
     who: u8,
     key: Key,
 ) -> Result<Active, KvError>
-    ensures { (root : List ℕ) (number : ℕ) → HasRun
+    ensures run { (root : List ℕ) (number : ℕ) → HasRun
         (parts root number U.rules_by (U.state primary.old) R.rules_by (R.state rollback.old))
         (parts_in root number (begun_or result)
         U.rules_by (U.state primary.new) R.rules_by (R.state rollback.new))
         (answered who (RemoveStart key) (done_or result)) }
+    ensures sealing { (root : List ℕ) (number : ℕ) → IfOk result (λ active.
+        IsBegun root number active.begun) }
 {
     let held = match find_held(primary, rollback, key.as_slice()) {
         Ok(held) => held,

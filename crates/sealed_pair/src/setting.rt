@@ -12,7 +12,7 @@ ghost use Rattle.secure_record.specs.Streams.{HasSealed};
 ghost use Rattle.sealed_pair.specs.Reading.{HasRead, IsUnread, WhereTold};
 ghost use Rattle.sealed_pair.specs.Running.{HasRun, parts};
 ghost use Rattle.sealed_pair.specs.Sealing.{is_numbered, kept_flags};
-ghost use Rattle.sealed_pair.specs.Setting.{FailsToAdd, HasAdded, HasAddedPart, HasAddedRecord, HasGivenUp, HasMoved, IsAdmitted, IsFilled, IsRefusedSet, BeginsRecord, StartsSet, TagOr, TakesOne, admitted, asked_of, bytes_of, calls, flags_with, number_left, record_set, tag_set, tag_with, vector_of};
+ghost use Rattle.sealed_pair.specs.Setting.{FailsToAdd, HasAdded, HasAddedPart, HasAddedRecord, HasGivenUp, HasMoved, IsAdmitted, IsFilled, IsRefusedSet, MayRefuse, BeginsRecord, StartsSet, TagOr, TakesOne, admitted, asked_of, bytes_of, calls, flags_with, number_left, record_set, tag_set, tag_with, vector_of};
 
 use crate::keys::key_of;
 use crate::limits::{MAX_SECURE_VALUE, SEAL_SIZE, TAG_SIZE};
@@ -66,8 +66,8 @@ pub fn is_numbered(flags: Flags) -> bool
     flags.bits % 2 == 1 || (flags.bits / 2) % 2 == 1 || (flags.bits / 8) % 2 == 1
 }
 
-// The vector of a record.
-fn vector_for(flags: Flags, number: u64) -> u64
+/// The vector of a record.
+pub(crate) fn vector_for(flags: Flags, number: u64) -> u64
     ensures { result ≡ vector_of number flags.bits }
 {
     if is_numbered(flags) { number } else { 0 }
@@ -221,6 +221,7 @@ fn add_piece<K: Kv>(
         stream.old stream.new piece.now) }
     ensures fails { IfErr result (FailsToAdd
         (calls K.rules_by (K.state store.old) (K.state store.new) who) (length piece.now)) }
+    ensures may { IfErr result MayRefuse }
 {
     let mut buffer = [0; PIECE];
     let buf = &mut buffer[..piece.len()];
@@ -245,6 +246,7 @@ pub(crate) fn add_part<K: Kv>(
         stream.old stream.new value.now) }
     ensures fails { IfErr result (FailsToAdd
         (calls K.rules_by (K.state store.old) (K.state store.new) who) (length value.now)) }
+    ensures may { IfErr result MayRefuse }
 {
     let mut done = 0;
     while done < value.len() {
@@ -287,8 +289,8 @@ fn add_record<K: Kv>(
     }
 }
 
-// Gives up the set of a tag, where there is one.
-fn abort_tag<R: Kv>(rollback: &mut R, who: u8, flags: Flags)
+/// Gives up the set of a tag, where there is one.
+pub(crate) fn abort_tag<R: Kv>(rollback: &mut R, who: u8, flags: Flags)
     ensures { (key bytes : List ℕ) → HasMoved R.rules_by (R.state rollback.old)
         (R.state rollback.new) (tag_set who key flags.bits bytes) None }
 {

@@ -281,7 +281,7 @@ module _ (old new : Parts) (who : ℕ) (operation : Operation) (run : HasRun old
   } ∣₁
 
 -- what holds unless a write failed, of a refusal that is no failed write
-unless_given : (P : Type 0) (e : KvError) → (e ≡ error.WriteFault → ⊥) → UnlessFailedWrite (kind_of (Refused e)) P → P
+pub unless_given : (P : Type 0) (e : KvError) → (e ≡ error.WriteFault → ⊥) → UnlessFailedWrite (kind_of (Refused e)) P → P
 unless_given P error.NotFound other p = p
 unless_given P error.InvalidKey other p = p
 unless_given P error.InvalidFlags other p = p
@@ -302,14 +302,14 @@ unless_given P error.RollbackFailed other p = p
 unless_given P error.IvSpent other p = p
 unless_given P error.Memory other p = p
 
-unlike_done : Done ≡ Refused error.WriteFault → ⊥
+pub unlike_done : Done ≡ Refused error.WriteFault → ⊥
 unlike_done is = absurd (cc)
 
 error_of : Reply → KvError
 error_of (Refused e) = e
 error_of reply = error.NotFound
 
-unlike_refusal : (e : KvError) → (e ≡ error.WriteFault → ⊥) → Refused e ≡ Refused error.WriteFault → ⊥
+pub unlike_refusal : (e : KvError) → (e ≡ error.WriteFault → ⊥) → Refused e ≡ Refused error.WriteFault → ⊥
 unfolding error_of
 unlike_refusal e other is = other (ap error_of is)
 
@@ -329,7 +329,7 @@ run_begun None free root number above below u r new call run = run
 run_begun (Some active) free root number above below u r new call run = absurd (false≢true free)
 
 module _ (stopped : Option Stop) (running : is_none stopped ≡ true) (root : List ℕ) (number : ℕ) (active : Option Active) (above below : Constants → Rules) (u r u' r' : KvState)
-    (plain : IsPlainWhile (is_none stopped) (share_above active) above u) (plain_too : IsPlainWhile (is_none stopped) (share_below active) below r) (who : ℕ) (operation : Operation) where
+    (plain : IsPlainWhile (is_none stopped) (share_above root number active) above u) (plain_too : IsPlainWhile (is_none stopped) (share_below active) below r) (who : ℕ) (operation : Operation) where
   abbrev parts_old : Parts
   parts_old = parts_in root number active above u below r
 
@@ -339,7 +339,7 @@ module _ (stopped : Option Stop) (running : is_none stopped ≡ true) (root : Li
   abbrev before : KvState
   before = told_by root (own_of number active) stopped u r
 
-  runs_above : (state : StoreState) → u.known.state ≡ Some state → IsOpen (share_above active) above u state
+  runs_above : (state : StoreState) → u.known.state ≡ Some state → IsOpen (share_above root number active) above u state
   runs_above state told = open_told (is_none stopped) plain running state told
 
   runs_below : (state : StoreState) → r.known.state ≡ Some state → IsOpen (share_below active) below r state
@@ -388,7 +388,7 @@ module _ (stopped : Option Stop) (running : is_none stopped ≡ true) (root : Li
     pub done_answers : HasRun parts_old (parts_new later next) (answered who operation Done) → Answers secure_rules before then_next (answered who operation Done)
     done_answers run = ran_answers later next Done run unlike_done
 
-    pub done_above : HasRun parts_old (parts_new later next) (answered who operation Done) → IsPlainWhile (is_none stopped) (share_above next) above u'
+    pub done_above : HasRun parts_old (parts_new later next) (answered who operation Done) → IsPlainWhile (is_none stopped) (share_above root later next) above u'
     done_above run = while_open (is_none stopped) plain running run.above.tells_state run.stays.0
 
     pub done_below : HasRun parts_old (parts_new later next) (answered who operation Done) → IsPlainWhile (is_none stopped) (share_below next) below r'
@@ -398,11 +398,11 @@ module _ (stopped : Option Stop) (running : is_none stopped ≡ true) (root : Li
       pub refusal_answers : Answers secure_rules before then_next (answered who operation (Refused e))
       refusal_answers = ran_answers later next (Refused e) run (unlike_refusal e other)
 
-      still_both : StaysOpen (share_above active) (share_above next) above u u' × StaysOpen (share_below active) (share_below next) below r r'
+      still_both : StaysOpen (share_above root number active) (share_above root later next) above u u' × StaysOpen (share_below active) (share_below next) below r r'
       still_both =
-          unless_given (StaysOpen (share_above active) (share_above next) above u u' × StaysOpen (share_below active) (share_below next) below r r') e other run.stays
+          unless_given (StaysOpen (share_above root number active) (share_above root later next) above u u' × StaysOpen (share_below active) (share_below next) below r r') e other run.stays
 
-      pub refusal_above : IsPlainWhile (is_none stopped) (share_above next) above u'
+      pub refusal_above : IsPlainWhile (is_none stopped) (share_above root later next) above u'
       refusal_above = while_open (is_none stopped) plain running run.above.tells_state still_both.0
 
       pub refusal_below : IsPlainWhile (is_none stopped) (share_below next) below r'

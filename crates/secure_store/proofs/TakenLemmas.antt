@@ -9,8 +9,9 @@ use Rattle.kv_model.specs.Constants.{Constants}
 use Rattle.kv_model.specs.Flags.{is_secure_flags}
 use Rattle.kv_model.specs.Keys.{is_key}
 use Rattle.kv_model.specs.StoreState.{OpenSet, StoreState}
-use Rattle.kv_model.specs.Operations.{Operation, Set}
-use Rattle.kv_model.specs.Rules.{Outcome, Rules, refuses, step}
+use Rattle.kv_model.specs.Operations.{Operation, Remove}
+use Rattle.kv_model.specs.Checks.{first_refusal}
+use Rattle.kv_model.specs.Rules.{Outcome, Rules, refused_or, refuses, step}
 use Rattle.kv_model.specs.Kv.{Answers, IsCause, Kind, KvState, LeadsTo, answered, kind_of, may_end, Ruled}
 use Rattle.store_note.specs.declared.noted.Noted.{Noted}
 use Rattle.secure_store.specs.declared.stop.Stop.{Stop}
@@ -22,9 +23,10 @@ use Rattle.sealed_pair.specs.declared.limits.TheConstants.{MAX_SECURE_VALUE}
 use Rattle.sealed_pair.specs.Active.{opened_by, own_of, taken}
 use Rattle.secure_store.specs.Doubts.{told_by, noted_in}
 use Rattle.sealed_pair.specs.Pair.{pair, pair_constants}
-use Rattle.sealed_pair.specs.SecureStep.{secure_rules}
+use Rattle.sealed_pair.specs.SecureStep.{secure_rules, set_checks}
 use Rattle.sealed_pair.specs.Store.{Own, joined_by}
 use Rattle.sealed_pair.proofs.PairLemmas.{read_answers, read_none}
+use Rattle.sealed_pair.proofs.SettingRunLemmas.{AsksSet}
 use Rattle.secure_store.proofs.SettleLemmas.{running_answers}
 
 module _ (root : List ℕ) (own : Own) (u r : KvState) where
@@ -35,7 +37,7 @@ module _ (root : List ℕ) (own : Own) (u r : KvState) where
   rules = secure_rules (pair_constants root u.known.constants r.known.constants)
 
   -- a refusal by the rules
-  refused_here : (who : ℕ) (operation : Operation) (e : KvError) → kind_of (Refused e) ≡ Ruled → IsCause one.known one.known (Refused e)
+  pub refused_here : (who : ℕ) (operation : Operation) (e : KvError) → kind_of (Refused e) ≡ Ruled → IsCause one.known one.known (Refused e)
       → ((above below : StoreState) → step rules (joined_by own above below) who operation ≡ refuses (joined_by own above below) e)
       → Answers secure_rules one one (answered who operation (Refused e))
   refused_here who operation e ruled cause refused =
@@ -50,21 +52,51 @@ module _ (root : List ℕ) (own : Own) (u r : KvState) where
 
 owner_is : (owner : ℕ) (its : Begun) → (opened_by owner its).owner ≡ owner
 owner_is owner (begun.Remove key) = refl
+owner_is owner (begun.Set set) = refl
 
 taken_is : (x y : KvError) → Some x ≡ Some y → y ≡ x
 taken_is x y is = cc
 
-module _ (key value : List ℕ) (flags : ℕ) (good : is_key key ≡ true) (secure : is_secure_flags flags ≡ true) (small : nat_lt MAX_SECURE_VALUE (length value) ≡ false) where
+abbrev with_active : ℕ → OpenSet → StoreState → StoreState → StoreState
+with_active n set above below = joined_by (record { number = n; set = Some set }) above below
+
+-- a call that is refused while a set is active
+pub record IsTaken (operation : Operation) : Type 0 where
+  pub own : (c : Constants) (n : ℕ) (set : OpenSet) (above below : StoreState) (who : ℕ) → (set.owner == who) ≡ true
+      → step (secure_rules c) (with_active n set above below) who operation ≡ refuses (with_active n set above below) SetOpen
+  pub other : (c : Constants) (n : ℕ) (set : OpenSet) (above below : StoreState) (who : ℕ) → (set.owner == who) ≡ false
+      → step (secure_rules c) (with_active n set above below) who operation ≡ refuses (with_active n set above below) (Busy set.owner)
+
+pub taken_remove : (key : List ℕ) → is_key key ≡ true → IsTaken (Remove key)
+taken_remove key good = record {
+  own = λ c n set above below who is. simp (good, is) refl;
+  other = λ c n set above below who is. simp (good, is) refl;
+}
+
+module _ (key : List ℕ) (size flags : ℕ) (operation : Operation) (asks : AsksSet operation key size flags)
+    (good : is_key key ≡ true) (secure : is_secure_flags flags ≡ true) (small : nat_lt MAX_SECURE_VALUE size ≡ false) where
   module _ (c : Constants) (n : ℕ) (set : OpenSet) (above below : StoreState) (who : ℕ) where
     abbrev state : StoreState
-    state = joined_by (record { number = n; set = Some set }) above below
+    state = with_active n set above below
 
-    own_taken : (set.owner == who) ≡ true → step (secure_rules c) state who (Set key value flags) ≡ refuses state SetOpen
-    own_taken is = simp (good, secure, small, is) refl
+    by_checks : (e : KvError) → first_refusal (set_checks c state who key size flags) ≡ Some e → step (secure_rules c) state who operation ≡ refuses state e
+    by_checks e first =
+        ap (λ (o : Option KvError). refused_or (secure_rules c) state who operation o) (ap first_refusal (asks.checks c state who) ∙ first)
+        ∙ ap (λ (s : StoreState). refuses s e) (asks.stays state e)
 
-    other_taken : (set.owner == who) ≡ false → step (secure_rules c) state who (Set key value flags) ≡ refuses state (Busy set.owner)
-    other_taken is = simp (good, secure, small, is) refl
+    own_first : (set.owner == who) ≡ true → first_refusal (set_checks c state who key size flags) ≡ Some SetOpen
+    own_first is = simp (good, secure, small, is) refl
 
+    other_first : (set.owner == who) ≡ false → first_refusal (set_checks c state who key size flags) ≡ Some (Busy set.owner)
+    other_first is = simp (good, secure, small, is) refl
+
+  pub taken_set : IsTaken operation
+  taken_set = record {
+    own = λ c n set above below who is. by_checks c n set above below who SetOpen (own_first c n set above below who is);
+    other = λ c n set above below who is. by_checks c n set above below who (Busy set.owner) (other_first c n set above below who is);
+  }
+
+module _ (operation : Operation) (steps : IsTaken operation) where
   module _ (root : List ℕ) (n : ℕ) (u r : KvState) (who : ℕ) (owner : ℕ) (its : Begun) where
     abbrev own : Own
     own = record { number = n; set = Some (opened_by owner its) }
@@ -72,22 +104,22 @@ module _ (key value : List ℕ) (flags : ℕ) (good : is_key key ≡ true) (secu
     abbrev with_set : KvState
     with_set = pair root (joined_by own) u r
 
-    taken_by : (b : Bool) → (owner == who) ≡ b → Answers secure_rules with_set with_set (answered who (Set key value flags) (Refused (if b then SetOpen else Busy owner)))
+    taken_by : (b : Bool) → (owner == who) ≡ b → Answers secure_rules with_set with_set (answered who operation (Refused (if b then SetOpen else Busy owner)))
     taken_by true is =
-        refused_here root own u r who (Set key value flags) SetOpen refl tt
-        (λ above below. own_taken (pair_constants root u.known.constants r.known.constants) n (opened_by owner its) above below who
+        refused_here root own u r who operation SetOpen refl tt
+        (λ above below. steps.own (pair_constants root u.known.constants r.known.constants) n (opened_by owner its) above below who
         (ap (λ (o : ℕ). o == who) (owner_is owner its) ∙ is))
     taken_by false is =
-        refused_here root own u r who (Set key value flags) (Busy owner) refl tt
-        (λ above below. other_taken (pair_constants root u.known.constants r.known.constants) n (opened_by owner its) above below who
+        refused_here root own u r who operation (Busy owner) refl tt
+        (λ above below. steps.other (pair_constants root u.known.constants r.known.constants) n (opened_by owner its) above below who
         (ap (λ (o : ℕ). o == who) (owner_is owner its) ∙ is)
         ∙ ap (λ (o : ℕ). refuses (joined_by own above below) (Busy o)) (owner_is owner its))
 
   taken_at : (active : Option Active) (root : List ℕ) (n : ℕ) (u r : KvState) (who : ℕ) (e : KvError) → taken active who ≡ Some e
-      → Answers secure_rules (pair root (joined_by (own_of n active)) u r) (pair root (joined_by (own_of n active)) u r) (answered who (Set key value flags) (Refused e))
+      → Answers secure_rules (pair root (joined_by (own_of n active)) u r) (pair root (joined_by (own_of n active)) u r) (answered who operation (Refused e))
   taken_at None root n u r who e is = absurd (false≢true (ap is_some is))
   taken_at (Some active) root n u r who e is =
-      subst (λ (f : KvError). Answers secure_rules (pair root (joined_by (own_of n (Some active))) u r) (pair root (joined_by (own_of n (Some active))) u r) (answered who (Set key value flags) (Refused f)))
+      subst (λ (f : KvError). Answers secure_rules (pair root (joined_by (own_of n (Some active))) u r) (pair root (joined_by (own_of n (Some active))) u r) (answered who operation (Refused f)))
       (sym (taken_is (if active.owner == who then SetOpen else Busy active.owner) e is))
       (taken_by root n u r who active.owner active.begun (active.owner == who) refl)
 
@@ -95,7 +127,7 @@ module _ (key value : List ℕ) (flags : ℕ) (good : is_key key ≡ true) (secu
     abbrev here : KvState
     here = told_by root (own_of number active) stopped u r
 
-    pub taken_answers : (e : KvError) → taken active who ≡ Some e → Answers secure_rules here here (answered who (Set key value flags) (Refused e))
+    pub taken_answers : (e : KvError) → taken active who ≡ Some e → Answers secure_rules here here (answered who operation (Refused e))
     taken_answers e is =
-        running_answers stopped running root (own_of number active) (own_of number active) u r u r (answered who (Set key value flags) (Refused e))
+        running_answers stopped running root (own_of number active) (own_of number active) u r u r (answered who operation (Refused e))
         (taken_at active root number u r who e is)

@@ -2,4 +2,5 @@ pub mod Asked
 pub mod Asking
 pub mod Doubts
 pub mod Facts
+pub mod Recover
 pub mod SecureState

@@ -16,6 +16,14 @@ pub(crate) enum Asking<'a> {
     RemoveStart {
         key: &'a [u8],
     },
+    Start {
+        key: &'a [u8],
+        size: u32,
+        flags: Flags,
+    },
+    Add {
+        value: &'a [u8],
+    },
     Finish,
     Reset,
 }

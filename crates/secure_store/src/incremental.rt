@@ -11,7 +11,9 @@ use crate::doubt::in_doubt;
 use crate::stop::Stop;
 use crate::store::SecureStore;
 use kv_model::{Key, Kv, KvError};
-use sealed_pair::{abort_both, begin_both, check_free, finish_remove, key_of, owns, take_own};
+use sealed_pair::{
+    abort_both, add_both, begin_both, check_free, finish_both, key_of, may_take, take_own,
+};
 
 impl<U: Kv, R: Kv> SecureStore<U, R> {
     /// Begins a remove that `set_finish` completes. It makes every check and read of `remove`, and
@@ -57,7 +59,10 @@ impl<U: Kv, R: Kv> SecureStore<U, R> {
         }
     }
 
-    /// Appends bytes to what the caller has begun. A remove takes none.
+    /// Appends bytes to what the caller has begun, sealed as they come. A remove takes none. It
+    /// takes no memory.
+    ///
+    /// `InvalidSize` comes where the set wants fewer bytes; then none is appended.
     pub fn set_add(&mut self, who: u8, value: &[u8]) -> Result<(), KvError>
         ensures { Answers secure_rules (state_in self.old) (state_in self.new)
             (answered who (Add value.now) (done_or result)) }
@@ -65,16 +70,32 @@ impl<U: Kv, R: Kv> SecureStore<U, R> {
         if self.stopped.is_some() {
             return Err(KvError::Stopped);
         }
-        if !owns(&self.active, who) {
-            return Err(KvError::NoSet);
-        }
-        if !value.is_empty() {
+        let note = in_doubt(self, who, Asking::Add { value });
+        let active = match take_own(&mut self.active, who) {
+            None => return Err(KvError::NoSet),
+            Some(active) => active,
+        };
+        if !may_take(&active.begun, value.len()) {
+            self.active = Some(active);
             return Err(KvError::InvalidSize);
         }
-        Ok(())
+        match add_both(&mut self.primary, &mut self.rollback, active, value) {
+            Ok(active) => {
+                self.active = Some(active);
+                Ok(())
+            }
+            Err(refusal) => {
+                if refusal == KvError::WriteFault {
+                    self.stopped = Some(Stop::InCall(note));
+                }
+                Err(refusal)
+            }
+        }
     }
 
     /// Completes what the caller has begun, in the primary store first. It takes no memory.
+    ///
+    /// `InvalidSize` comes where bytes of the value are missing, and the set is given up.
     pub fn set_finish(&mut self, who: u8) -> Result<(), KvError>
         ensures { Answers secure_rules (state_in self.old) (state_in self.new)
             (answered who Finish (done_or result)) }
@@ -87,8 +108,7 @@ impl<U: Kv, R: Kv> SecureStore<U, R> {
             None => return Err(KvError::NoSet),
             Some(active) => active,
         };
-        let (above, below) = (active.above, active.below);
-        match finish_remove(&mut self.primary, &mut self.rollback, who, above, below) {
+        match finish_both(&mut self.primary, &mut self.rollback, active) {
             Ok(()) => Ok(()),
             Err(refusal) => {
                 if refusal == KvError::WriteFault {

@@ -2,8 +2,7 @@
 //! put back. It makes each call on the two stores as sealed_pair does, and keeps what is between
 //! calls: the next number, the set that is active, and what a store tells in which a write failed.
 //!
-//! The calls that read stand, the iterators, set, remove, at once or begun and finished, and reset;
-//! sets in pieces are to come.
+//! All calls of a store stand, and the recover that a mount makes.
 #![tactic(auto)]
 
 mod arming;
@@ -12,7 +11,9 @@ mod doubt;
 mod incremental;
 mod iterating;
 mod reads;
+mod recovering;
 mod sets;
+mod starts;
 mod stop;
 mod store;
 #[cfg(test)]

@@ -1,5 +1,5 @@
 // The calls of a secure store that read.
-ghost use Rattle.std.specs.Prelude.{◌≡◌, ◌≤◌, ℕ, true, IfOk, is_none, length, take};
+ghost use Rattle.std.specs.Prelude.{◌≡◌, ◌≤◌, ℕ, true, IfOk, None, is_none, length, take};
 ghost use Rattle.kv_model.specs.Given.{AreZerosFrom, IsGot, facts_or, got_or, read_end};
 ghost use Rattle.kv_model.specs.Kv.{Answers, answered};
 ghost use Rattle.kv_model.specs.Operations.{Info as InfoOf, Part};
@@ -48,6 +48,7 @@ impl<U: Kv, R: Kv> SecureStore<U, R> {
         ensures rollback { result.rollback ≡ rollback }
         ensures root { result.root ≡ root.now }
         ensures iv { result.iv ≡ iv }
+        ensures free { result.active ≡ None }
     {
         SecureStore {
             primary,

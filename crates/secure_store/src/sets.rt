@@ -16,8 +16,8 @@ use crate::store::SecureStore;
 use kv_model::{Flags, Kv, KvError};
 use sealed_pair::{MAX_SECURE_VALUE, check_free, is_numbered, is_secure, set_both};
 
-// The next number, once a set of these flags took its own.
-fn next_number(flags: Flags, number: u64) -> u64
+/// The next number, once a set of these flags took its own.
+pub(crate) fn next_number(flags: Flags, number: u64) -> u64
     requires { is_numbered flags.bits ≡ true → number + 1 ≤ last_number }
     ensures { result ≡ number_taken (is_numbered flags.bits) number }
 {

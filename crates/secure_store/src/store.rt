@@ -1,9 +1,9 @@
 // A secure store over two others.
 ghost use Rattle.std.specs.Prelude.{is_none};
-ghost use Rattle.sealed_pair.specs.Active.{share_above, share_below};
+ghost use Rattle.sealed_pair.specs.Active.{IsActive, share_above, share_below};
 ghost use Rattle.secure_store.specs.Doubts.{WhereStopped, noted_in};
 ghost use Rattle.sealed_pair.specs.Store.{IsPlainWhile};
-ghost use Rattle.secure_store.specs.Facts.{plain_prop};
+ghost use Rattle.secure_store.specs.Facts.{active_prop, plain_prop};
 
 use crate::stop::Stop;
 use kv_model::Kv;
@@ -20,10 +20,11 @@ pub struct SecureStore<U: Kv, R: Kv> {
     pub(crate) iv: u64,
     pub(crate) active: Option<Active>,
     pub(crate) stopped: Option<Stop>,
-    ghost above: { IsPlainWhile (is_none stopped) (share_above active) U.rules_by
+    ghost above: { IsPlainWhile (is_none stopped) (share_above root iv active) U.rules_by
         (U.state primary) } by { plain_prop },
     ghost below: { IsPlainWhile (is_none stopped) (share_below active) R.rules_by
         (R.state rollback) } by { plain_prop },
+    ghost sealing: { IsActive root iv active } by { active_prop root iv active },
     ghost in_doubt: { ∥ WhereStopped root (noted_in stopped) (U.state primary)
         (R.state rollback) ∥₁ },
 }

@@ -402,3 +402,116 @@ fn a_long_value_is_set(rt: HostRuntime) -> Result<(), Fail> {
     assert_eq!(rt; buf, value);
     Ok(())
 }
+
+// How many tags a recover over these two stores changes, or 100 and the number of the refusal, and
+// the answer to a read after it.
+fn recovered(alloc: Global, record: &[u8], tag: &[u8], buf: &mut [u8]) -> [u32; 2] {
+    let primary = filled(alloc, KEY, record);
+    let rollback = filled(alloc, KEY, tag);
+    let mut store = SecureStore::new(primary, rollback, &ROOT, 1);
+    let changed = match store.recover() {
+        Ok(changed) => changed,
+        Err(refusal) => 100 + refusal.number() as u32,
+    };
+    let answer = match store.get(KEY, 0, buf) {
+        Ok(_) => 0,
+        Err(refusal) => refusal.number() as u32,
+    };
+    let (_, _) = store.into_parts();
+    [changed, answer]
+}
+
+// A record that was set beside the tag that it replaces gets its own tag, and no other record does.
+#[test]
+fn a_recover_completes_a_cut_set(rt: HostRuntime) -> Result<(), Fail> {
+    let absent: &[u8] = b"";
+    let cases: [(&[u8], &[u8], [u32; 2]); 6] = [
+        (&SECOND, &PRIOR, [1, 0]),
+        (&SECOND, &SECOND_TAG, [0, 0]),
+        (&SECOND, &FIRST_TAG, [0, 17]),
+        (&SECOND, absent, [0, 17]),
+        (&FIRST, &PRIOR, [0, 17]),
+        (absent, &PRIOR, [0, 17]),
+    ];
+    for (record, tag, answers) in cases.iter() {
+        let mut buf = [7; 20];
+        let alloc = rt.alloc();
+        assert_eq!(rt; recovered(alloc, record, tag, &mut buf), *answers);
+        let wanted = if answers[1] == 0 { *VALUE } else { [0; 20] };
+        assert_eq!(rt; buf, wanted);
+    }
+    Ok(())
+}
+
+// The answers to a set that is written in two pieces, with a byte too many behind them, and what
+// both stores hold in the end.
+fn sealed_in_pieces(alloc: Global, front: &[u8], back: &[u8]) -> ([u8; 5], [u8; 76], [u8; 16]) {
+    let primary = filled(alloc, KEY, b"");
+    let rollback = filled(alloc, KEY, &PRIOR);
+    let mut store = SecureStore::new(primary, rollback, &ROOT, 0x0102_0304_0506_0708);
+    let one = number_of(store.set_start(1, KEY, 20, Flags { bits: 11 }));
+    let two = number_of(store.set_add(1, front));
+    let three = number_of(store.set_add(1, back));
+    let four = number_of(store.set_add(1, b"x"));
+    let five = number_of(store.set_finish(1));
+    let (mut primary, mut rollback) = store.into_parts();
+    let mut record = [0; 76];
+    let mut mirrored = [0; 16];
+    let _ = primary.get(KEY, 0, &mut record);
+    let _ = rollback.get(KEY, 0, &mut mirrored);
+    ([one, two, three, four, five], record, mirrored)
+}
+
+// A set in pieces seals the record that a set at once seals, wherever its value is cut.
+#[test]
+fn a_set_in_pieces_seals_one_record(rt: HostRuntime) -> Result<(), Fail> {
+    let cases: [(&[u8], &[u8]); 3] = [
+        (b"", b"ABCDEFGHIJKLMNOPQRST"),
+        (b"ABCDE", b"FGHIJKLMNOPQRST"),
+        (b"ABCDEFGHIJKLMNOPQRST", b""),
+    ];
+    for (front, back) in cases.iter() {
+        let alloc = rt.alloc();
+        let (answers, record, tag) = sealed_in_pieces(alloc, front, back);
+        assert_eq!(rt; answers, [0, 0, 0, 4, 0]);
+        assert_eq!(rt; record, SECOND);
+        assert_eq!(rt; tag, SECOND_TAG);
+    }
+    Ok(())
+}
+
+// The answers to a set of three bytes that client 1 begins, to these bytes, to another client's
+// byte, to two finishes and to a read.
+fn finished_with(alloc: Global, value: &[u8]) -> [u8; 6] {
+    let primary = filled(alloc, KEY, b"");
+    let rollback = filled(alloc, KEY, b"");
+    let mut store = SecureStore::new(primary, rollback, &ROOT, 1);
+    let mut buf = [7; 3];
+    let one = number_of(store.set_start(1, KEY, 3, Flags { bits: 8 }));
+    let two = number_of(store.set_add(1, value));
+    let other = number_of(store.set_add(2, b"x"));
+    let three = number_of(store.set_finish(1));
+    let four = number_of(store.set_finish(1));
+    let five = match store.get(KEY, 0, &mut buf) {
+        Ok(_) => 0,
+        Err(refusal) => refusal.number(),
+    };
+    let (_, _) = store.into_parts();
+    [one, two, other, three, four, five]
+}
+
+// A set with bytes missing is given up by its finish, and one takes no more bytes than it wants.
+#[test]
+fn a_set_wants_all_its_bytes(rt: HostRuntime) -> Result<(), Fail> {
+    let cases: [(&[u8], [u8; 6]); 4] = [
+        (b"abc", [0, 0, 10, 0, 10, 0]),
+        (b"ab", [0, 0, 10, 4, 10, 1]),
+        (b"", [0, 0, 10, 4, 10, 1]),
+        (b"abcd", [0, 4, 10, 4, 10, 1]),
+    ];
+    for (value, answers) in cases.iter() {
+        let alloc = rt.alloc();
+        assert_eq!(rt; finished_with(alloc, value), *answers);
+    }
+    Ok(())
+}

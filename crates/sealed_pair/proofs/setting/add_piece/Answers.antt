@@ -1,6 +1,7 @@
 use Rattle.std.proofs.Common.{List, ℕ, ◌++◌, ◌≡◌, length, sym, ◌∙◌, ap, subst, arith}
 use Rattle.secure_record.specs.Streams.{HasSealed}
 use Rattle.secure_record.specs.Sealed.{stored}
+use Rattle.sealed_pair.proofs.PieceLemmas.{may_refuse}
 use Rattle.sealed_pair.proofs.SettingLemmas.{add_failed, added}
 use Rattle.sealed_pair.proofs.setting.add_piece.Goals as goal
 
@@ -21,3 +22,7 @@ pub returns-in-Err-clause-fails : goal.returns-in-Err-clause-fails
 returns-in-Err-clause-fails g c set room =
     let long : length c.seal.new.buf ≡ length c.args.piece.now = c.seal.auto.buf ∙ ap length c.copy_from_slice.ensures.after in
     add_failed g.K.Kv.rules_by _ _ c.args.who c.seal.new.buf set (record { owner = room.owner; fits = omega (arith, room.fits, long) }) c.in-Err.refusal c.in-Err.ensures (g.met.K.Kv.lawful c.set_add.new.self)
+
+pub returns-in-Err-clause-may : goal.returns-in-Err-clause-may
+returns-in-Err-clause-may g c =
+    may_refuse g.K.Kv.rules_by (g.K.Kv.state c.args.store.now) (g.K.Kv.state c.set_add.new.self) c.args.who c.seal.new.buf c.in-Err.refusal c.in-Err.ensures

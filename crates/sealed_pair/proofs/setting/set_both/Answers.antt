@@ -1,21 +1,25 @@
 use Rattle.std.proofs.Common.{◌≤◌, ℕ, List, [], length, subst, arith}
+use Rattle.kv_model.specs.Operations.{Set}
 use Rattle.secure_record.specs.declared.metadata.Metadata.{Metadata}
 use Rattle.secure_record.specs.Sealed.{sealed_metadata}
 use Rattle.secure_record.specs.Streams.{HasSealed}
 use Rattle.sealed_pair.specs.Setting.{vector_of}
 use Rattle.sealed_pair.proofs.BehindLemmas.{run_behind}
 use Rattle.sealed_pair.proofs.SettingCheckLemmas.{set_refused, set_unnamed, unspent_number}
+use Rattle.sealed_pair.proofs.SettingRunLemmas.{asks_set}
 use Rattle.sealed_pair.proofs.setting.set_both.Goals as goal
 
 pub returns-in-Err-clause-run : goal.returns-in-Err-clause-run
 returns-in-Err-clause-run g c =
     set_unnamed c.args.root.now c.args.number g.U.Kv.rules_by g.R.Kv.rules_by (g.U.Kv.state c.args.primary.now) (g.U.Kv.state c.args.primary.now) (g.R.Kv.state c.args.rollback.now) (g.R.Kv.state c.args.rollback.now)
-    c.args.who c.args.key.now c.args.value.now c.args.flags.bits c.in-Err.refusal c.in-Err.ensures.0 c.in-Err.ensures.1
+    c.args.who c.args.key.now (length c.args.value.now) c.args.flags.bits (Set c.args.key.now c.args.value.now c.args.flags.bits) (asks_set c.args.key.now c.args.value.now c.args.flags.bits)
+    c.in-Err.refusal c.in-Err.ensures.0 c.in-Err.ensures.1
 
 pub returns-in-Err-check_set-clause-run : goal.returns-in-Err-check_set-clause-run
 returns-in-Err-check_set-clause-run g c =
     set_refused c.args.root.now c.args.number g.U.Kv.rules_by g.R.Kv.rules_by (g.U.Kv.state c.args.primary.now) (g.U.Kv.state c.check_set.new.primary) (g.R.Kv.state c.args.rollback.now) (g.R.Kv.state c.check_set.new.rollback)
-    c.args.who c.args.key.now c.args.value.now c.args.flags.bits c.in-Err-check_set.ensures.above c.in-Err-check_set.ensures.below c.in-Err-check_set.refusal (c.in-Err-check_set.ensures.refused c.args.root.now)
+    c.args.who c.args.key.now (length c.args.value.now) c.args.flags.bits (Set c.args.key.now c.args.value.now c.args.flags.bits) (asks_set c.args.key.now c.args.value.now c.args.flags.bits)
+    c.in-Err-check_set.ensures.above c.in-Err-check_set.ensures.below c.in-Err-check_set.refusal (c.in-Err-check_set.ensures.refused c.args.root.now)
 
 pub returns-in-Err-check_set-clause-unspent : goal.returns-in-Err-check_set-clause-unspent
 returns-in-Err-check_set-clause-unspent g c fault = absurd ((c.in-Err-check_set.ensures.refused c.args.root.now).unwritten fault)

@@ -9,13 +9,13 @@ use Rattle.secure_store.proofs.store.SecureStore.next.Goals as goal
 pub returns-clause-answers : goal.returns-clause-answers
 returns-clause-answers g c =
     let none : is_some c.args.self.now.stopped ≡ false = search rules in
-    iterates c.args.self.now.stopped (some_or_none _ c.args.self.now.stopped none) c.args.self.now.root (own_of c.args.self.now.iv c.args.self.now.active) (share_above c.args.self.now.active) g.U.Kv.rules_by (g.U.Kv.state c.args.self.now.primary) (g.U.Kv.state c.next.new.self)
+    iterates c.args.self.now.stopped (some_or_none _ c.args.self.now.stopped none) c.args.self.now.root (own_of c.args.self.now.iv c.args.self.now.active) (share_above c.args.self.now.root c.args.self.now.iv c.args.self.now.active) g.U.Kv.rules_by (g.U.Kv.state c.args.self.now.primary) (g.U.Kv.state c.next.new.self)
     (g.R.Kv.state c.args.self.now.rollback) c.args.self.now.above c.args.who (Gives c.args.n) (found_or c.next.result c.next.new.out) c.next.ensures.answers
 
 pub invariant_of-self-clause-above : goal.invariant_of-self-clause-above
 invariant_of-self-clause-above g c =
     let none : is_some c.args.self.now.stopped ≡ false = search rules in
-    iterating_while c.args.self.now.stopped (some_or_none _ c.args.self.now.stopped none) c.args.self.now.root (own_of c.args.self.now.iv c.args.self.now.active) (share_above c.args.self.now.active) g.U.Kv.rules_by (g.U.Kv.state c.args.self.now.primary) (g.U.Kv.state c.next.new.self)
+    iterating_while c.args.self.now.stopped (some_or_none _ c.args.self.now.stopped none) c.args.self.now.root (own_of c.args.self.now.iv c.args.self.now.active) (share_above c.args.self.now.root c.args.self.now.iv c.args.self.now.active) g.U.Kv.rules_by (g.U.Kv.state c.args.self.now.primary) (g.U.Kv.state c.next.new.self)
     (g.R.Kv.state c.args.self.now.rollback) c.args.self.now.above c.args.who (Gives c.args.n) (found_or c.next.result c.next.new.out) c.next.ensures.answers
 
 pub invariant_of-self-clause-in_doubt : goal.invariant_of-self-clause-in_doubt

@@ -13,21 +13,21 @@ returns-in-Ok g c =
     done_answers c.args.self.now.stopped c.requires.running c.args.self.now.root c.args.self.now.iv c.args.self.now.active g.U.Kv.rules_by g.R.Kv.rules_by
     (g.U.Kv.state c.args.self.now.primary) (g.R.Kv.state c.args.self.now.rollback) (g.U.Kv.state c.begin_both.new.primary) (g.R.Kv.state c.begin_both.new.rollback)
     c.args.self.now.above c.args.self.now.below c.args.who (RemoveStart c.args.key) c.args.self.now.iv (Some c.in-Ok.active) (run_begun c.args.self.now.active (ap is_none c.requires.free) c.args.self.now.root c.args.self.now.iv g.U.Kv.rules_by g.R.Kv.rules_by
-    (g.U.Kv.state c.args.self.now.primary) (g.R.Kv.state c.args.self.now.rollback) _ _ (c.in-Ok.ensures c.args.self.now.root c.args.self.now.iv))
+    (g.U.Kv.state c.args.self.now.primary) (g.R.Kv.state c.args.self.now.rollback) _ _ (c.in-Ok.ensures.run c.args.self.now.root c.args.self.now.iv))
 
 pub invariant_of-self-clause-above : goal.invariant_of-self-clause-above
 invariant_of-self-clause-above g c =
     done_above c.args.self.now.stopped c.requires.running c.args.self.now.root c.args.self.now.iv c.args.self.now.active g.U.Kv.rules_by g.R.Kv.rules_by
     (g.U.Kv.state c.args.self.now.primary) (g.R.Kv.state c.args.self.now.rollback) (g.U.Kv.state c.begin_both.new.primary) (g.R.Kv.state c.begin_both.new.rollback)
     c.args.self.now.above c.args.self.now.below c.args.who (RemoveStart c.args.key) c.args.self.now.iv (Some c.in-Ok.active) (run_begun c.args.self.now.active (ap is_none c.requires.free) c.args.self.now.root c.args.self.now.iv g.U.Kv.rules_by g.R.Kv.rules_by
-    (g.U.Kv.state c.args.self.now.primary) (g.R.Kv.state c.args.self.now.rollback) _ _ (c.in-Ok.ensures c.args.self.now.root c.args.self.now.iv))
+    (g.U.Kv.state c.args.self.now.primary) (g.R.Kv.state c.args.self.now.rollback) _ _ (c.in-Ok.ensures.run c.args.self.now.root c.args.self.now.iv))
 
 pub invariant_of-self-clause-below : goal.invariant_of-self-clause-below
 invariant_of-self-clause-below g c =
     done_below c.args.self.now.stopped c.requires.running c.args.self.now.root c.args.self.now.iv c.args.self.now.active g.U.Kv.rules_by g.R.Kv.rules_by
     (g.U.Kv.state c.args.self.now.primary) (g.R.Kv.state c.args.self.now.rollback) (g.U.Kv.state c.begin_both.new.primary) (g.R.Kv.state c.begin_both.new.rollback)
     c.args.self.now.above c.args.self.now.below c.args.who (RemoveStart c.args.key) c.args.self.now.iv (Some c.in-Ok.active) (run_begun c.args.self.now.active (ap is_none c.requires.free) c.args.self.now.root c.args.self.now.iv g.U.Kv.rules_by g.R.Kv.rules_by
-    (g.U.Kv.state c.args.self.now.primary) (g.R.Kv.state c.args.self.now.rollback) _ _ (c.in-Ok.ensures c.args.self.now.root c.args.self.now.iv))
+    (g.U.Kv.state c.args.self.now.primary) (g.R.Kv.state c.args.self.now.rollback) _ _ (c.in-Ok.ensures.run c.args.self.now.root c.args.self.now.iv))
 
 pub invariant_of-self-clause-in_doubt : goal.invariant_of-self-clause-in_doubt
 invariant_of-self-clause-in_doubt g c =
@@ -39,7 +39,7 @@ returns-else-eq g c =
     refusal_answers c.args.self.now.stopped c.requires.running c.args.self.now.root c.args.self.now.iv c.args.self.now.active g.U.Kv.rules_by g.R.Kv.rules_by
     (g.U.Kv.state c.args.self.now.primary) (g.R.Kv.state c.args.self.now.rollback) (g.U.Kv.state c.begin_both.new.primary) (g.R.Kv.state c.begin_both.new.rollback)
     c.args.self.now.above c.args.self.now.below c.args.who (RemoveStart c.args.key) c.args.self.now.iv c.args.self.now.active c.in-Err.refusal other (run_free c.args.self.now.active (ap is_none c.requires.free) c.args.self.now.root c.args.self.now.iv c.args.self.now.iv g.U.Kv.rules_by g.R.Kv.rules_by
-    (g.U.Kv.state c.args.self.now.primary) (g.R.Kv.state c.args.self.now.rollback) (g.U.Kv.state c.begin_both.new.primary) (g.R.Kv.state c.begin_both.new.rollback) _ (c.in-Err.ensures c.args.self.now.root c.args.self.now.iv))
+    (g.U.Kv.state c.args.self.now.primary) (g.R.Kv.state c.args.self.now.rollback) (g.U.Kv.state c.begin_both.new.primary) (g.R.Kv.state c.begin_both.new.rollback) _ (c.in-Err.ensures.run c.args.self.now.root c.args.self.now.iv))
 
 pub invariant_of-self-else-eq-clause-above : goal.invariant_of-self-else-eq-clause-above
 invariant_of-self-else-eq-clause-above g c =
@@ -47,7 +47,7 @@ invariant_of-self-else-eq-clause-above g c =
     refusal_above c.args.self.now.stopped c.requires.running c.args.self.now.root c.args.self.now.iv c.args.self.now.active g.U.Kv.rules_by g.R.Kv.rules_by
     (g.U.Kv.state c.args.self.now.primary) (g.R.Kv.state c.args.self.now.rollback) (g.U.Kv.state c.begin_both.new.primary) (g.R.Kv.state c.begin_both.new.rollback)
     c.args.self.now.above c.args.self.now.below c.args.who (RemoveStart c.args.key) c.args.self.now.iv c.args.self.now.active c.in-Err.refusal other (run_free c.args.self.now.active (ap is_none c.requires.free) c.args.self.now.root c.args.self.now.iv c.args.self.now.iv g.U.Kv.rules_by g.R.Kv.rules_by
-    (g.U.Kv.state c.args.self.now.primary) (g.R.Kv.state c.args.self.now.rollback) (g.U.Kv.state c.begin_both.new.primary) (g.R.Kv.state c.begin_both.new.rollback) _ (c.in-Err.ensures c.args.self.now.root c.args.self.now.iv))
+    (g.U.Kv.state c.args.self.now.primary) (g.R.Kv.state c.args.self.now.rollback) (g.U.Kv.state c.begin_both.new.primary) (g.R.Kv.state c.begin_both.new.rollback) _ (c.in-Err.ensures.run c.args.self.now.root c.args.self.now.iv))
 
 pub invariant_of-self-else-eq-clause-below : goal.invariant_of-self-else-eq-clause-below
 invariant_of-self-else-eq-clause-below g c =
@@ -55,7 +55,7 @@ invariant_of-self-else-eq-clause-below g c =
     refusal_below c.args.self.now.stopped c.requires.running c.args.self.now.root c.args.self.now.iv c.args.self.now.active g.U.Kv.rules_by g.R.Kv.rules_by
     (g.U.Kv.state c.args.self.now.primary) (g.R.Kv.state c.args.self.now.rollback) (g.U.Kv.state c.begin_both.new.primary) (g.R.Kv.state c.begin_both.new.rollback)
     c.args.self.now.above c.args.self.now.below c.args.who (RemoveStart c.args.key) c.args.self.now.iv c.args.self.now.active c.in-Err.refusal other (run_free c.args.self.now.active (ap is_none c.requires.free) c.args.self.now.root c.args.self.now.iv c.args.self.now.iv g.U.Kv.rules_by g.R.Kv.rules_by
-    (g.U.Kv.state c.args.self.now.primary) (g.R.Kv.state c.args.self.now.rollback) (g.U.Kv.state c.begin_both.new.primary) (g.R.Kv.state c.begin_both.new.rollback) _ (c.in-Err.ensures c.args.self.now.root c.args.self.now.iv))
+    (g.U.Kv.state c.args.self.now.primary) (g.R.Kv.state c.args.self.now.rollback) (g.U.Kv.state c.begin_both.new.primary) (g.R.Kv.state c.begin_both.new.rollback) _ (c.in-Err.ensures.run c.args.self.now.root c.args.self.now.iv))
 
 pub invariant_of-self-else-eq-clause-in_doubt : goal.invariant_of-self-else-eq-clause-in_doubt
 invariant_of-self-else-eq-clause-in_doubt g c =
@@ -68,16 +68,16 @@ returns-then-eq g c =
     stopped_by c.args.self.now.stopped c.requires.running c.args.self.now.root c.args.self.now.iv c.args.self.now.active g.U.Kv.rules_by g.R.Kv.rules_by
     (g.U.Kv.state c.args.self.now.primary) (g.R.Kv.state c.args.self.now.rollback) (g.U.Kv.state c.begin_both.new.primary) (g.R.Kv.state c.begin_both.new.rollback)
     c.args.self.now.above c.args.self.now.below c.args.who (RemoveStart c.args.key) c.in-Err.refusal fault c.args.self.now.active (run_free c.args.self.now.active (ap is_none c.requires.free) c.args.self.now.root c.args.self.now.iv c.args.self.now.iv g.U.Kv.rules_by g.R.Kv.rules_by
-    (g.U.Kv.state c.args.self.now.primary) (g.R.Kv.state c.args.self.now.rollback) (g.U.Kv.state c.begin_both.new.primary) (g.R.Kv.state c.begin_both.new.rollback) _ (c.in-Err.ensures c.args.self.now.root c.args.self.now.iv))
+    (g.U.Kv.state c.args.self.now.primary) (g.R.Kv.state c.args.self.now.rollback) (g.U.Kv.state c.begin_both.new.primary) (g.R.Kv.state c.begin_both.new.rollback) _ (c.in-Err.ensures.run c.args.self.now.root c.args.self.now.iv))
     (own_of c.args.self.now.iv c.args.self.now.active) c.in_doubt-note.result noted
 
 pub invariant_of-self-then-eq-clause-above : goal.invariant_of-self-then-eq-clause-above
 invariant_of-self-then-eq-clause-above g c =
-    while_stopped _ c.args.self.now.above (c.in-Err.ensures c.args.self.now.root c.args.self.now.iv).above.tells_state
+    while_stopped _ c.args.self.now.above (c.in-Err.ensures.run c.args.self.now.root c.args.self.now.iv).above.tells_state
 
 pub invariant_of-self-then-eq-clause-below : goal.invariant_of-self-then-eq-clause-below
 invariant_of-self-then-eq-clause-below g c =
-    while_stopped _ c.args.self.now.below (c.in-Err.ensures c.args.self.now.root c.args.self.now.iv).below.tells_state
+    while_stopped _ c.args.self.now.below (c.in-Err.ensures.run c.args.self.now.root c.args.self.now.iv).below.tells_state
 
 pub invariant_of-self-then-eq-clause-in_doubt : goal.invariant_of-self-then-eq-clause-in_doubt
 invariant_of-self-then-eq-clause-in_doubt g c =
@@ -86,4 +86,7 @@ invariant_of-self-then-eq-clause-in_doubt g c =
     stops_by c.args.self.now.stopped c.requires.running c.args.self.now.root c.args.self.now.iv c.args.self.now.active g.U.Kv.rules_by g.R.Kv.rules_by
     (g.U.Kv.state c.args.self.now.primary) (g.R.Kv.state c.args.self.now.rollback) (g.U.Kv.state c.begin_both.new.primary) (g.R.Kv.state c.begin_both.new.rollback)
     c.args.self.now.above c.args.self.now.below c.args.who (RemoveStart c.args.key) c.in-Err.refusal fault c.args.self.now.active (run_free c.args.self.now.active (ap is_none c.requires.free) c.args.self.now.root c.args.self.now.iv c.args.self.now.iv g.U.Kv.rules_by g.R.Kv.rules_by
-    (g.U.Kv.state c.args.self.now.primary) (g.R.Kv.state c.args.self.now.rollback) (g.U.Kv.state c.begin_both.new.primary) (g.R.Kv.state c.begin_both.new.rollback) _ (c.in-Err.ensures c.args.self.now.root c.args.self.now.iv)) c.in_doubt-note.result noted
+    (g.U.Kv.state c.args.self.now.primary) (g.R.Kv.state c.args.self.now.rollback) (g.U.Kv.state c.begin_both.new.primary) (g.R.Kv.state c.begin_both.new.rollback) _ (c.in-Err.ensures.run c.args.self.now.root c.args.self.now.iv)) c.in_doubt-note.result noted
+
+pub invariant_of-self-clause-sealing : goal.invariant_of-self-clause-sealing
+invariant_of-self-clause-sealing g c = c.in-Ok.ensures.sealing c.args.self.now.root c.args.self.now.iv

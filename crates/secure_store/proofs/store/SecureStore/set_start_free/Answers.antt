@@ -1,0 +1,105 @@
+use Rattle.std.proofs.Common.{rules, ◌≡◌, ◌∙◌, ℕ, List, Option, Some, ap, sym, subst}
+use Rattle.std.specs.Prelude.{is_none}
+use Rattle.kv_model.specs.declared.error.KvError.TheVariants.{WriteFault}
+use Rattle.kv_model.specs.declared.call.Reply.TheVariants.{Done}
+use Rattle.kv_model.specs.Kv.{answered}
+use Rattle.kv_model.specs.Operations.{Start}
+use Rattle.sealed_pair.specs.declared.active.Active.{Active}
+use Rattle.sealed_pair.specs.Active.{IsActive, IsBegun, own_of}
+use Rattle.sealed_pair.specs.Begun.{parts_in}
+use Rattle.sealed_pair.specs.Running.{HasRun, parts}
+use Rattle.secure_store.specs.Doubts.{doubted}
+use Rattle.secure_store.specs.SecureState.{state_in}
+use Rattle.secure_store.proofs.SettleLemmas.{done_above, done_answers, done_below, not_stopped, refusal_above, refusal_answers, refusal_below, run_begun, run_free, stopped_by, stops_by, while_stopped}
+use Rattle.secure_store.proofs.store.SecureStore.set_start_free.Goals as goal
+
+pub returns-in-Ok-clause-answers : goal.returns-in-Ok-clause-answers
+returns-in-Ok-clause-answers g c =
+    done_answers c.args.self.now.stopped c.requires.running c.args.self.now.root c.args.self.now.iv c.args.self.now.active g.U.Kv.rules_by g.R.Kv.rules_by
+    (g.U.Kv.state c.args.self.now.primary) (g.R.Kv.state c.args.self.now.rollback) (g.U.Kv.state c.start_set.new.primary) (g.R.Kv.state c.start_set.new.rollback)
+    c.args.self.now.above c.args.self.now.below c.args.start.who (Start c.args.start.key c.args.start.size c.args.start.flags.bits) c.next_number-self.result (Some c.in-Ok.active)
+    (run_begun c.args.self.now.active (ap is_none c.requires.free) c.args.self.now.root c.args.self.now.iv g.U.Kv.rules_by g.R.Kv.rules_by (g.U.Kv.state c.args.self.now.primary) (g.R.Kv.state c.args.self.now.rollback) _ _
+    (subst (λ (n : ℕ). HasRun (parts c.args.self.now.root c.args.self.now.iv g.U.Kv.rules_by (g.U.Kv.state c.args.self.now.primary) g.R.Kv.rules_by (g.R.Kv.state c.args.self.now.rollback)) (parts_in c.args.self.now.root n (Some c.in-Ok.active) g.U.Kv.rules_by (g.U.Kv.state c.start_set.new.primary) g.R.Kv.rules_by (g.R.Kv.state c.start_set.new.rollback)) (answered c.args.start.who (Start c.args.start.key c.args.start.size c.args.start.flags.bits) Done)) (sym c.next_number-self.ensures) c.in-Ok.ensures.run))
+
+pub invariant_of-self-clause-above : goal.invariant_of-self-clause-above
+invariant_of-self-clause-above g c =
+    done_above c.args.self.now.stopped c.requires.running c.args.self.now.root c.args.self.now.iv c.args.self.now.active g.U.Kv.rules_by g.R.Kv.rules_by
+    (g.U.Kv.state c.args.self.now.primary) (g.R.Kv.state c.args.self.now.rollback) (g.U.Kv.state c.start_set.new.primary) (g.R.Kv.state c.start_set.new.rollback)
+    c.args.self.now.above c.args.self.now.below c.args.start.who (Start c.args.start.key c.args.start.size c.args.start.flags.bits) c.next_number-self.result (Some c.in-Ok.active)
+    (run_begun c.args.self.now.active (ap is_none c.requires.free) c.args.self.now.root c.args.self.now.iv g.U.Kv.rules_by g.R.Kv.rules_by (g.U.Kv.state c.args.self.now.primary) (g.R.Kv.state c.args.self.now.rollback) _ _
+    (subst (λ (n : ℕ). HasRun (parts c.args.self.now.root c.args.self.now.iv g.U.Kv.rules_by (g.U.Kv.state c.args.self.now.primary) g.R.Kv.rules_by (g.R.Kv.state c.args.self.now.rollback)) (parts_in c.args.self.now.root n (Some c.in-Ok.active) g.U.Kv.rules_by (g.U.Kv.state c.start_set.new.primary) g.R.Kv.rules_by (g.R.Kv.state c.start_set.new.rollback)) (answered c.args.start.who (Start c.args.start.key c.args.start.size c.args.start.flags.bits) Done)) (sym c.next_number-self.ensures) c.in-Ok.ensures.run))
+
+pub invariant_of-self-clause-below : goal.invariant_of-self-clause-below
+invariant_of-self-clause-below g c =
+    done_below c.args.self.now.stopped c.requires.running c.args.self.now.root c.args.self.now.iv c.args.self.now.active g.U.Kv.rules_by g.R.Kv.rules_by
+    (g.U.Kv.state c.args.self.now.primary) (g.R.Kv.state c.args.self.now.rollback) (g.U.Kv.state c.start_set.new.primary) (g.R.Kv.state c.start_set.new.rollback)
+    c.args.self.now.above c.args.self.now.below c.args.start.who (Start c.args.start.key c.args.start.size c.args.start.flags.bits) c.next_number-self.result (Some c.in-Ok.active)
+    (run_begun c.args.self.now.active (ap is_none c.requires.free) c.args.self.now.root c.args.self.now.iv g.U.Kv.rules_by g.R.Kv.rules_by (g.U.Kv.state c.args.self.now.primary) (g.R.Kv.state c.args.self.now.rollback) _ _
+    (subst (λ (n : ℕ). HasRun (parts c.args.self.now.root c.args.self.now.iv g.U.Kv.rules_by (g.U.Kv.state c.args.self.now.primary) g.R.Kv.rules_by (g.R.Kv.state c.args.self.now.rollback)) (parts_in c.args.self.now.root n (Some c.in-Ok.active) g.U.Kv.rules_by (g.U.Kv.state c.start_set.new.primary) g.R.Kv.rules_by (g.R.Kv.state c.start_set.new.rollback)) (answered c.args.start.who (Start c.args.start.key c.args.start.size c.args.start.flags.bits) Done)) (sym c.next_number-self.ensures) c.in-Ok.ensures.run))
+
+pub invariant_of-self-clause-in_doubt : goal.invariant_of-self-clause-in_doubt
+invariant_of-self-clause-in_doubt g c =
+    not_stopped c.args.self.now.stopped c.requires.running _ _ _
+
+pub invariant_of-self-clause-sealing : goal.invariant_of-self-clause-sealing
+invariant_of-self-clause-sealing g c =
+    subst (λ (n : ℕ). IsBegun c.args.self.now.root n c.in-Ok.active.begun) (sym c.next_number-self.ensures) c.in-Ok.ensures.sealing
+
+pub returns-else-eq-clause-answers : goal.returns-else-eq-clause-answers
+returns-else-eq-clause-answers g c =
+    let other : c.in-Err.refusal ≡ WriteFault → ⊥ = search rules in
+    refusal_answers c.args.self.now.stopped c.requires.running c.args.self.now.root c.args.self.now.iv c.args.self.now.active g.U.Kv.rules_by g.R.Kv.rules_by
+    (g.U.Kv.state c.args.self.now.primary) (g.R.Kv.state c.args.self.now.rollback) (g.U.Kv.state c.start_set.new.primary) (g.R.Kv.state c.start_set.new.rollback)
+    c.args.self.now.above c.args.self.now.below c.args.start.who (Start c.args.start.key c.args.start.size c.args.start.flags.bits) c.args.self.now.iv c.args.self.now.active c.in-Err.refusal other
+    (run_free c.args.self.now.active (ap is_none c.requires.free) c.args.self.now.root c.args.self.now.iv c.args.self.now.iv g.U.Kv.rules_by g.R.Kv.rules_by (g.U.Kv.state c.args.self.now.primary) (g.R.Kv.state c.args.self.now.rollback) (g.U.Kv.state c.start_set.new.primary) (g.R.Kv.state c.start_set.new.rollback) _ c.in-Err.ensures.run)
+
+pub invariant_of-self-else-eq-clause-above : goal.invariant_of-self-else-eq-clause-above
+invariant_of-self-else-eq-clause-above g c =
+    let other : c.in-Err.refusal ≡ WriteFault → ⊥ = search rules in
+    refusal_above c.args.self.now.stopped c.requires.running c.args.self.now.root c.args.self.now.iv c.args.self.now.active g.U.Kv.rules_by g.R.Kv.rules_by
+    (g.U.Kv.state c.args.self.now.primary) (g.R.Kv.state c.args.self.now.rollback) (g.U.Kv.state c.start_set.new.primary) (g.R.Kv.state c.start_set.new.rollback)
+    c.args.self.now.above c.args.self.now.below c.args.start.who (Start c.args.start.key c.args.start.size c.args.start.flags.bits) c.args.self.now.iv c.args.self.now.active c.in-Err.refusal other
+    (run_free c.args.self.now.active (ap is_none c.requires.free) c.args.self.now.root c.args.self.now.iv c.args.self.now.iv g.U.Kv.rules_by g.R.Kv.rules_by (g.U.Kv.state c.args.self.now.primary) (g.R.Kv.state c.args.self.now.rollback) (g.U.Kv.state c.start_set.new.primary) (g.R.Kv.state c.start_set.new.rollback) _ c.in-Err.ensures.run)
+
+pub invariant_of-self-else-eq-clause-below : goal.invariant_of-self-else-eq-clause-below
+invariant_of-self-else-eq-clause-below g c =
+    let other : c.in-Err.refusal ≡ WriteFault → ⊥ = search rules in
+    refusal_below c.args.self.now.stopped c.requires.running c.args.self.now.root c.args.self.now.iv c.args.self.now.active g.U.Kv.rules_by g.R.Kv.rules_by
+    (g.U.Kv.state c.args.self.now.primary) (g.R.Kv.state c.args.self.now.rollback) (g.U.Kv.state c.start_set.new.primary) (g.R.Kv.state c.start_set.new.rollback)
+    c.args.self.now.above c.args.self.now.below c.args.start.who (Start c.args.start.key c.args.start.size c.args.start.flags.bits) c.args.self.now.iv c.args.self.now.active c.in-Err.refusal other
+    (run_free c.args.self.now.active (ap is_none c.requires.free) c.args.self.now.root c.args.self.now.iv c.args.self.now.iv g.U.Kv.rules_by g.R.Kv.rules_by (g.U.Kv.state c.args.self.now.primary) (g.R.Kv.state c.args.self.now.rollback) (g.U.Kv.state c.start_set.new.primary) (g.R.Kv.state c.start_set.new.rollback) _ c.in-Err.ensures.run)
+
+pub invariant_of-self-else-eq-clause-in_doubt : goal.invariant_of-self-else-eq-clause-in_doubt
+invariant_of-self-else-eq-clause-in_doubt g c =
+    not_stopped c.args.self.now.stopped c.requires.running _ _ _
+
+pub returns-then-eq-clause-answers : goal.returns-then-eq-clause-answers
+returns-then-eq-clause-answers g c =
+    let fault : c.in-Err.refusal ≡ WriteFault = search rules in
+    let noted = c.in_doubt-note.ensures ∙ ap (λ (l : List ℕ). doubted (state_in c.args.self.now) c.args.start.who (Start l c.args.start.size c.args.start.flags.bits)) c.as_slice.ensures.bytes in
+    stopped_by c.args.self.now.stopped c.requires.running c.args.self.now.root c.args.self.now.iv c.args.self.now.active g.U.Kv.rules_by g.R.Kv.rules_by
+    (g.U.Kv.state c.args.self.now.primary) (g.R.Kv.state c.args.self.now.rollback) (g.U.Kv.state c.start_set.new.primary) (g.R.Kv.state c.start_set.new.rollback)
+    c.args.self.now.above c.args.self.now.below c.args.start.who (Start c.args.start.key c.args.start.size c.args.start.flags.bits) c.in-Err.refusal fault c.args.self.now.active
+    (run_free c.args.self.now.active (ap is_none c.requires.free) c.args.self.now.root c.args.self.now.iv c.args.self.now.iv g.U.Kv.rules_by g.R.Kv.rules_by (g.U.Kv.state c.args.self.now.primary) (g.R.Kv.state c.args.self.now.rollback) (g.U.Kv.state c.start_set.new.primary) (g.R.Kv.state c.start_set.new.rollback) _ c.in-Err.ensures.run)
+    (own_of c.next_number-self-then-eq.result c.args.self.now.active) c.in_doubt-note.result noted
+
+pub invariant_of-self-then-eq-clause-above : goal.invariant_of-self-then-eq-clause-above
+invariant_of-self-then-eq-clause-above g c =
+    while_stopped _ c.args.self.now.above c.in-Err.ensures.run.above.tells_state
+
+pub invariant_of-self-then-eq-clause-below : goal.invariant_of-self-then-eq-clause-below
+invariant_of-self-then-eq-clause-below g c =
+    while_stopped _ c.args.self.now.below c.in-Err.ensures.run.below.tells_state
+
+pub invariant_of-self-then-eq-clause-in_doubt : goal.invariant_of-self-then-eq-clause-in_doubt
+invariant_of-self-then-eq-clause-in_doubt g c =
+    let fault : c.in-Err.refusal ≡ WriteFault = search rules in
+    let noted = c.in_doubt-note.ensures ∙ ap (λ (l : List ℕ). doubted (state_in c.args.self.now) c.args.start.who (Start l c.args.start.size c.args.start.flags.bits)) c.as_slice.ensures.bytes in
+    stops_by c.args.self.now.stopped c.requires.running c.args.self.now.root c.args.self.now.iv c.args.self.now.active g.U.Kv.rules_by g.R.Kv.rules_by
+    (g.U.Kv.state c.args.self.now.primary) (g.R.Kv.state c.args.self.now.rollback) (g.U.Kv.state c.start_set.new.primary) (g.R.Kv.state c.start_set.new.rollback)
+    c.args.self.now.above c.args.self.now.below c.args.start.who (Start c.args.start.key c.args.start.size c.args.start.flags.bits) c.in-Err.refusal fault c.args.self.now.active
+    (run_free c.args.self.now.active (ap is_none c.requires.free) c.args.self.now.root c.args.self.now.iv c.args.self.now.iv g.U.Kv.rules_by g.R.Kv.rules_by (g.U.Kv.state c.args.self.now.primary) (g.R.Kv.state c.args.self.now.rollback) (g.U.Kv.state c.start_set.new.primary) (g.R.Kv.state c.start_set.new.rollback) _ c.in-Err.ensures.run) c.in_doubt-note.result noted
+
+pub invariant_of-self-then-eq-clause-sealing : goal.invariant_of-self-then-eq-clause-sealing
+invariant_of-self-then-eq-clause-sealing g c =
+    subst (λ (o : Option Active). IsActive c.args.self.now.root c.next_number-self-then-eq.result o) (sym c.requires.free) tt
