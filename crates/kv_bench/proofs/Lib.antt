@@ -1,1 +1,2 @@
+mod LookupLemmas
 pub mod Rounds
