@@ -1,175 +1,241 @@
 #!/usr/bin/env python3
-"""Compares replays of random scripts with a model of the store in Python.
+"""Compares replays of random scripts with a model of the store in Python (store_model.py).
 
-usage: compare_replays.py PROGRAM SCRIPTS
-       compare_replays.py image SCRIPT
+usage: compare_replays.py PROGRAM SCRIPTS [FIRST]
+       compare_replays.py image SCRIPT P:E:U [IMAGE]
 
-Each random script is replayed over an erased image by PROGRAM. The replies must be those of the model, and the image
-that was written must have the model's bytes and hold its map, by a writer and a reader that follow docs/FORMAT.md and
-nothing else. The second form writes the model's image of one script to standard output.
+Each random script, with its geometry, hash bits, clients, power cuts and mounts, is replayed by PROGRAM over an erased
+image, over random bytes, or over an image that an earlier case left. The replies must be those of the model. Without a
+power cut the image must have the model's bytes. A write that fails must stand behind a cut; from then on the replies
+and the written image must be those of the map before the call or of the map behind it. FIRST is the number of the first
+script, 0 if not given. The second form writes the image that the model makes of one script without cuts over IMAGE, or
+over an erased image.
 """
+import copy
 import os
 import random
-import struct
 import subprocess
 import sys
 import tempfile
-import zlib
 
-UNIT = 8
-AREA = 65_536
-ROOM = AREA - 40
-REMOVED = 1 << 31
-KEYS = ["a", "b", "cfg.x", "~!@", "k" * 128, "k" * 129, "a/b", "TDBS"]
-SIZES = [0, 1, 2, 7, 100, 3_000]
-NUMBERS = [0, 1, 5, 2_999, 3_000, 3_001, 4_294_967_295]
+from store_model import Geometry, Held, Log, Store
 
-
-def up(size):
-    return (size + UNIT - 1) // UNIT * UNIT
+GEOMETRIES = [(8, 4096, 16), (8, 4096, 1), (32, 512, 1), (1, 256, 2), (1, 4096, 1), (4, 64, 8), (256, 1024, 2)]
+KEYS = ["a", "b", "cfg.x", "cfg.y", "~!@", "k" * 128]
+WRONG_KEYS = ["k" * 129, "a/b", "TDBS"]
+WRITING = {"set", "start", "add", "finish", "remove", "reset"}
+STOPPED, FAULT = "error 12 stopped", "error 14 write-fault"
 
 
-def is_key(key):
-    printing = all(0x21 <= byte <= 0x7E and byte not in b'*/?:;"|<>\\' for byte in key)
-    return 1 <= len(key) <= 128 and printing and key != b"TDBS"
+def random_size(pick, geometry):
+    return pick.choice([0, 1, 2, 7, 30, pick.randrange(100), pick.randrange(geometry.room + 2)])
 
 
-def record_at(image, place):
-    """The flags, the key, the value and the size of the record at a place, or None."""
-    header = image[place : place + 24]
-    if len(header) < 24:
-        return None
-    magic, size, revision, flags, key_size, reserved, value_size, crc = struct.unpack("<4sHHIHHII", header)
-    if (magic, size, revision, reserved) != (b"KVR1", 24, 1, 0) or flags not in (0, 1, REMOVED):
-        return None
-    payload = image[place + up(24) : place + up(24) + key_size + value_size]
-    if zlib.crc32(header[:20] + payload) ^ 0xFFFFFFFF != crc:
-        return None
-    return flags, payload[:key_size], payload[key_size:], up(24) + up(key_size + value_size)
-
-
-def padded(data):
-    return data.ljust(up(len(data)), b"\xff")
-
-
-def record_of(flags, key, value):
-    """The bytes of a record."""
-    front = struct.pack("<4sHHIHHI", b"KVR1", 24, 1, flags, len(key), 0, len(value))
-    crc = zlib.crc32(front + key + value) ^ 0xFFFFFFFF
-    return padded(front + struct.pack("<I", crc)) + padded(key + value)
-
-
-def map_of(image):
-    """The map to which an image with a master record of version 1 in area 0 mounts."""
-    assert record_at(image, 0) == (0, b"TDBS", struct.pack("<HHI", 1, 1, 0), 40), "no master record of version 1"
-    held, place = {}, 40
-    while (found := record_at(image[:AREA], place)) and is_key(found[1]):
-        flags, key, value, size = found
-        if flags == REMOVED:
-            held.pop(key, None)
-        else:
-            held[key] = (flags, value)
-        place += size
-    assert set(image[place:]) <= {0xFF}, "something stands behind the last record"
-    return held
-
-
-class Model:
-    def __init__(self):
-        self.held = {}
-        self.spent = 0
-        self.records = record_of(0, b"TDBS", struct.pack("<HHI", 1, 1, 0))
-
-    def image(self):
-        return self.records.ljust(2 * AREA, b"\xff")
-
-    def written(self, flags, key, value):
-        """Why no record of this key and value can be written, or None where it was."""
-        if self.held.get(key, (0, b""))[0] == 1:
-            return "error 5 write-protected"
-        need = self.spent + up(24) + up(len(key) + len(value))
-        if need > ROOM:
-            return f"error 6 media-full need {need} room {ROOM}"
-        self.spent = need
-        self.records += record_of(flags, key, value)
-        return None
-
-    def reply(self, verb, word, *words):
-        key = word.encode()
-        if not is_key(key):
-            return "error 2 invalid-key"
-        if verb == "set":
-            return self.set(key, bytes.fromhex(words[0].strip("-")), words[1])
-        if key not in self.held:
-            return "error 1 not-found"
-        flags, value = self.held[key]
-        if verb == "info":
-            return f"ok {len(value)} {'w' if flags else '-'}"
-        if verb == "remove":
-            refused = self.written(REMOVED, key, b"")
-            if not refused:
-                del self.held[key]
-            return refused or "ok"
-        offset, count = map(int, words) if verb == "part" else (0, len(value))
-        if offset > len(value):
-            return "error 4 invalid-size"
-        return "ok " + (value[offset : offset + count].hex() or "-")
-
-    def set(self, key, value, flags):
-        if flags not in ("-", "w"):
-            return "error 3 invalid-flags"
-        refused = self.written(int(flags == "w"), key, value)
-        if not refused:
-            self.held[key] = (int(flags == "w"), value)
-        return refused or "ok"
-
-
-def random_line(pick):
-    verb, key = pick.choice(["get", "info", "part", "remove", "set", "set", "set"]), pick.choice(KEYS)
+def random_call(pick, geometry, begun):
+    """A call, mostly one that the client may make now, and what is left of its set in pieces then."""
+    key = pick.choice(KEYS if pick.random() < 0.95 else WRONG_KEYS)
+    flags = pick.choice(["w", "c", "wcr"]) if pick.random() < 0.04 else "-"
+    if begun is not None and pick.random() < 0.5:
+        if begun == 0 or pick.random() < 0.2:
+            return pick.choice(["finish", "finish", "finish", "abort"]), None
+        size = begun if pick.random() < 0.5 else pick.randrange(begun + 2)
+        return f"add {pick.randbytes(size).hex() or '-'}", max(0, begun - size)
+    verb = pick.choice(["get", "get", "part", "info", "set", "set", "set", "remove", "start", "open", "next", "next", "close", "finish"])
+    if verb == "set":
+        return f"set {key} {pick.randbytes(random_size(pick, geometry)).hex() or '-'} {flags}", begun
+    if verb == "start":
+        size = random_size(pick, geometry)
+        return f"start {key} {size} {flags}", size if begun is None else begun
     if verb == "part":
-        return f"1 part {key} {pick.choice(NUMBERS)} {pick.choice(NUMBERS)}"
-    if verb != "set":
-        return f"1 {verb} {key}"
-    flags = pick.choice(["w", "c", "wr"]) if pick.random() < 0.1 else "-"
-    return f"1 set {key} {pick.randbytes(pick.choice(SIZES)).hex() or '-'} {flags}"
+        return f"part {key} {pick.choice([0, 1, 5, 99])} {pick.choice([0, 1, 40, 4_294_967_295])}", begun
+    if verb == "open":
+        return f"open {pick.randrange(6)} {pick.choice(['', 'cfg.', 'a', 'TDBS', 'k*', 'x/'])}*", begun
+    if verb in ("next", "close"):
+        return f"{verb} {pick.randrange(6)}", begun
+    if verb == "finish":
+        return pick.choice(["finish", "abort", "add 00", "reset"]), None
+    return f"{verb} {key}", begun
 
 
-def compare(program, folder, seed):
+def random_script(pick, geometry):
+    clients, cuts = pick.choice([1, 1, 2, 4, 16]), pick.random() < 0.5
+    lines, begun = [], {}
+    for _ in range(pick.choice([0, 1, 5, 50, 400])):
+        draw = pick.random()
+        if cuts and draw < 0.03:
+            pattern = pick.choice(["none", "half", "zero", "all", f"mix:{pick.randrange(1 << 32)}"])
+            lines.append(f"0 cut p:{pick.choice([1, 2, 3, 5, 8, 30])}:{pattern}")
+        elif draw < (0.1 if cuts else 0.02):
+            lines.append("0 mount")
+            begun.clear()
+        else:
+            who = pick.randint(1, clients)
+            call, begun[who] = random_call(pick, geometry, begun.get(who))
+            lines.append(f"{who} {call}")
+    return lines
+
+
+class Failed(Exception):
+    pass
+
+
+class Run:
+    """The stores that the replies so far allow: one, or one for each map that a power cut may have left."""
+
+    def __init__(self, log):
+        self.stores, self.doubts, self.is_armed = [Store(log)], None, False
+
+    def mount(self):
+        if self.doubts is None:
+            for store in self.stores:
+                store.mount()
+        else:
+            self.stores = [Store(Held(log.geometry, log.hash_bits, log.held)) for log in self.doubts]
+        self.doubts, self.is_armed = None, False
+
+    def fails(self, who, words):
+        """The call failed to write: the maps are those before it and those behind it."""
+        if not self.is_armed or words[0] not in WRITING:
+            raise Failed("a write fails behind no cut")
+        self.doubts = []
+        for store in self.stores:
+            behind = copy.deepcopy(store)
+            if behind.reply(who, *words) == "ok":
+                self.doubts += [store.log, behind.log]
+        if not self.doubts:
+            raise Failed("a write fails in place of a refusal")
+
+    def take(self, who, words, reply):
+        if self.doubts is not None:
+            if reply != STOPPED:
+                raise Failed(f"{reply} by a store that was stopped")
+        elif reply == FAULT:
+            self.fails(who, words)
+        else:
+            answers = [(store, store.reply(who, *words)) for store in self.stores]
+            self.stores = [store for store, answer in answers if answer == reply]
+            if not self.stores:
+                raise Failed(f"{reply} in place of {answers[0][1]}")
+
+    def maps(self):
+        logs = self.doubts if self.doubts is not None else [store.log for store in self.stores]
+        return [log.held for log in logs]
+
+
+def replies_of(lines, printed, by_client):
+    """The reply to each line that is no cut, in the order of the lines, from what was printed."""
+    called = [int(line.split(" ")[0]) for line in lines if not line.startswith("0 cut")]
+    order = sorted(range(len(called)), key=lambda place: called[place]) if by_client else range(len(called))
+    replies, seen = [None] * len(called), {}
+    if len(printed) != len(called):
+        raise Failed(f"{len(printed)} replies to {len(called)} calls")
+    for place, line in zip(order, printed):
+        who = called[place]
+        seen[who] = seen.get(who, 0) + 1
+        front = f"{who} {seen[who]} "
+        if not line.startswith(front):
+            raise Failed(f"{line} in place of a reply {front}")
+        replies[place] = line[len(front) :]
+    return iter(replies)
+
+
+def check(lines, log, printed, by_client, written):
+    run, replies = Run(log), replies_of(lines, printed, by_client)
+    for line in lines:
+        who, *words = line.split(" ")
+        if words[0] == "cut":
+            run.is_armed = True
+        elif words[0] == "mount":
+            run.mount()
+            if next(replies) != "ok":
+                raise Failed("a mount is refused")
+        else:
+            run.take(int(who), words, next(replies))
+    found = Log(log.geometry, written, log.hash_bits).held
+    if found not in run.maps():
+        raise Failed("the image holds another map")
+    if not any(line.startswith("0 cut") for line in lines) and written != run.stores[0].log.image():
+        raise Failed("the image has other bytes")
+
+
+def first_image(pick, geometry, kept):
+    draw = pick.random()
+    if draw < 0.5 and kept.get(geometry.word()):
+        return pick.choice(kept[geometry.word()])
+    return pick.randbytes(2 * geometry.area) if draw < 0.6 else b"\xff" * (2 * geometry.area)
+
+
+def words_of(pick, geometry, hash_bits, by_client, image, script):
+    """The words of a replay, the options in any order and place, and left out where they are the default."""
+    names, options = [image, "-", script], []
+    if geometry.word() != "8:4096:16" or pick.random() < 0.5:
+        options.append(pick.choice([["--geom", geometry.word()], [f"--geom={geometry.word()}"]]))
+    if hash_bits != 32 or pick.random() < 0.5:
+        options.append(pick.choice([["--hash-bits", str(hash_bits)], [f"--hash-bits={hash_bits}"]]))
+    if by_client:
+        options.append(["--by-client"])
+    for option in options:
+        pick.shuffle(options)
+    words = [[name] for name in names]
+    for option in options:
+        words.insert(pick.randrange(len(words) + 1), option)
+    return [word for group in words for word in group]
+
+
+def compare(program, folder, seed, kept):
     pick = random.Random(seed)
-    lines = [random_line(pick) for _ in range(pick.choice([0, 1, 5, 50, 400]))]
+    geometry, hash_bits = Geometry(*pick.choice(GEOMETRIES)), pick.choice([0, 4, 32])
+    lines, before, by_client = random_script(pick, geometry), first_image(pick, geometry, kept), pick.random() < 0.2
     image, script = os.path.join(folder, "image"), os.path.join(folder, "script")
     with open(image, "wb") as file:
-        file.write(b"\xff" * 2 * AREA)
+        file.write(before)
     with open(script, "w") as file:
         file.write("\n".join(lines))
-    done = subprocess.run([program, "replay", image, "-", script], capture_output=True, check=True)
-    model = Model()
-    replies = [f"1 {i} {model.reply(*line.split(' ')[1:])}\n" for i, line in enumerate(lines, 1)]
-    assert done.stdout.decode() == "".join(replies), f"seed {seed}: other replies"
+    words = words_of(pick, geometry, hash_bits, by_client, image, script)
+    done = subprocess.run([program, "replay", *words], capture_output=True)
     with open(image, "rb") as file:
-        found = file.read()
-    assert found == model.image(), f"seed {seed}: another image"
-    assert map_of(found) == model.held, f"seed {seed}: another map"
+        written = file.read()
+    printed = done.stdout.decode().splitlines()
+    if done.returncode == 5 and any(":mix:" in line for line in lines):
+        return
+    if done.returncode != 0:
+        raise Failed(f"status {done.returncode}")
+    check(lines, Log(geometry, before, hash_bits), printed, by_client, written)
+    kept.setdefault(geometry.word(), []).append(written)
 
 
-def image_of(script):
-    """The model's image of a script."""
-    model = Model()
+def image_of(script, geometry, before):
+    store = Store(Log(geometry, before, 32))
     with open(script) as file:
         for line in file.read().split("\n"):
-            if line and not line.startswith("#"):
-                model.reply(*line.split(" ")[1:])
-    return model.image()
+            who, *words = line.split(" ")
+            if words and words[0] == "mount":
+                store.mount()
+            elif line and not line.startswith("#"):
+                store.reply(int(who), *words)
+    return store.log.image()
+
+
+def image_in(words, geometry):
+    if not words:
+        return b"\xff" * (2 * geometry.area)
+    with open(words[0], "rb") as file:
+        return file.read()
 
 
 def main():
     if sys.argv[1] == "image":
-        sys.stdout.buffer.write(image_of(sys.argv[2]))
+        geometry = Geometry(*map(int, sys.argv[3].split(":")))
+        sys.stdout.buffer.write(image_of(sys.argv[2], geometry, image_in(sys.argv[4:], geometry)))
         return
     program, scripts = os.path.abspath(sys.argv[1]), int(sys.argv[2])
+    first, kept = int(sys.argv[3]) if len(sys.argv) > 3 else 0, {}
     with tempfile.TemporaryDirectory() as folder:
-        for seed in range(scripts):
-            compare(program, folder, seed)
+        for seed in range(first, first + scripts):
+            try:
+                compare(program, folder, seed, kept)
+            except Failed as failed:
+                sys.exit(f"script {seed}: {failed}")
     print(f"{scripts} scripts: the replies and the images are the model's")
 
 
