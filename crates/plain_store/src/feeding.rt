@@ -16,10 +16,11 @@ ghost use Rattle.plain_store.specs.Sets.{open_of, set_in, with_more};
 ghost use Rattle.plain_store.specs.Steps.{AddsTo};
 ghost use Rattle.plain_store.specs.Stores.{CallsBy, Is, IsRunning};
 
-use crate::notes::{note_add, note_more, note_state};
+use crate::notes::{note_add, note_state};
 use crate::{ActiveSet, Begun, PlainStore};
 use flash_core::Flash;
 use kv_model::KvError;
+use store_note::note_more;
 use tdb_read::MountedLog;
 use tdb_write::feed;
 

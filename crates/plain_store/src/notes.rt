@@ -1,48 +1,13 @@
-// What is noted for proofs alone: the bytes that a set was fed, and the state of a store that a
-// failed write stopped, with the call in doubt.
-ghost use Rattle.std.specs.Prelude.{◌≡◌, ◌++◌};
+// What is noted for proofs alone: the state of a store that a failed write stopped, with the call in
+// doubt.
+ghost use Rattle.std.specs.Prelude.{◌≡◌};
 ghost use Rattle.kv_model.specs.Operations.{Add, Finish, Remove, RemoveStart, Reset, Set, Start};
 ghost use Rattle.plain_store.specs.Stores.{in_doubt, state_told};
 
 use crate::PlainStore;
 use flash_core::Flash;
 use kv_model::{Flags, Key};
-use store_note::{Noted, NotedBytes, Notes, NotesBytes};
-
-// Bytes as they are, and bytes behind others.
-struct Same;
-
-#[derive(Drop)]
-struct Joined {
-    front: NotedBytes,
-    back: NotedBytes,
-}
-
-impl<'a> NotesBytes<&'a [u8]> for Same {
-    ghost bytes = { λ bytes. bytes.now };
-}
-
-impl NotesBytes<Joined> for Joined {
-    ghost bytes = { λ both. both.front.bytes ++ both.back.bytes };
-}
-
-/// A note of these bytes.
-pub(crate) fn note_bytes(bytes: &[u8]) -> NotedBytes
-    ensures { result.bytes ≡ bytes.now }
-{
-    NotedBytes::of::<&[u8], Same>(&bytes)
-}
-
-/// A note of these bytes behind others.
-pub(crate) fn note_more(front: NotedBytes, bytes: &[u8]) -> NotedBytes
-    ensures { result.bytes ≡ front.bytes ++ bytes.now }
-{
-    let joined = Joined {
-        front,
-        back: note_bytes(bytes),
-    };
-    NotedBytes::of::<Joined, Joined>(&joined)
-}
+use store_note::{Noted, NotedBytes, Notes, note_bytes};
 
 // The state of a store that runs.
 struct Running;

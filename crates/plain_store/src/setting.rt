@@ -20,13 +20,14 @@ ghost use Rattle.plain_store.specs.Setting.{CanSet, HasLookedUp, IsAllowed, IsPr
 ghost use Rattle.plain_store.specs.Steps.{SetsRecord};
 ghost use Rattle.plain_store.specs.Stores.{CallsBy, Is};
 
-use crate::notes::{note_bytes, note_set, note_start, note_state};
+use crate::notes::{note_set, note_start, note_state};
 use crate::{ActiveSet, Begun, PlainStore};
 use flash_core::Flash;
 use inc_set::OpenSet;
 use kv_model::{Flags, Key, KvError, MAX_VALUE};
 use ram_table::Place;
 use record_core::size_of_record;
+use store_note::note_bytes;
 use tdb_read::MountedLog;
 use tdb_write::{begin, check_room, feed, make_room, reserve, seal};
 

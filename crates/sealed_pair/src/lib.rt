@@ -12,7 +12,6 @@ mod finishing;
 mod keys;
 pub mod laws;
 mod limits;
-mod noting;
 mod opening;
 mod partial;
 mod pieces;

@@ -13,12 +13,12 @@ ghost use Rattle.sealed_pair.specs.Setting.{TakesOne, calls, number_left};
 
 use crate::active::{Active, Begun};
 use crate::finishing::finish_remove;
-use crate::noting::{note_bytes, note_more};
 use crate::partial::{PartialSet, SetStart};
 use crate::setting::{abort_tag, add_part, check_set, start_both, vector_for};
 use crate::viewing::is_mirrored;
 use kv_model::{Kv, KvError};
 use secure_record::SealStream;
+use store_note::{note_bytes, note_more};
 
 // A set before its first byte.
 fn fresh_set(root: &[u8; 16], number: u64, start: SetStart, prior: Option<[u8; 16]>) -> PartialSet

@@ -5,6 +5,8 @@
 //! gone once they are programmed. So the store notes them.
 #![tactic(auto)]
 
+mod bytes;
 mod noted;
 
+pub use bytes::{note_bytes, note_more};
 pub use noted::{Noted, NotedBytes, Notes, NotesBytes};

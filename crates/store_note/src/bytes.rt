@@ -1,9 +1,9 @@
-// The bytes of a set in pieces, which contracts alone see.
+// Notes of bytes as they are, and of bytes behind others.
 ghost use Rattle.std.specs.Prelude.{◌≡◌, ◌++◌};
 
-use store_note::{NotedBytes, NotesBytes};
+use crate::noted::{NotedBytes, NotesBytes};
 
-// Bytes as they are, and bytes behind others.
+// How the bytes of a note are read off a value.
 struct Same;
 
 #[derive(Drop)]
@@ -21,14 +21,14 @@ impl NotesBytes<Joined> for Joined {
 }
 
 /// A note of these bytes.
-pub(crate) fn note_bytes(bytes: &[u8]) -> NotedBytes
+pub fn note_bytes(bytes: &[u8]) -> NotedBytes
     ensures { result.bytes ≡ bytes.now }
 {
     NotedBytes::of::<&[u8], Same>(&bytes)
 }
 
 /// A note of these bytes behind others.
-pub(crate) fn note_more(front: NotedBytes, bytes: &[u8]) -> NotedBytes
+pub fn note_more(front: NotedBytes, bytes: &[u8]) -> NotedBytes
     ensures { result.bytes ≡ front.bytes ++ bytes.now }
 {
     let joined = Joined {
