@@ -1,5 +1,5 @@
 // The four columns of a state, and the rounds over them.
-ghost use Rattle.std.specs.Prelude.{◌≡◌, ◌∷◌, []};
+ghost use Rattle.std.specs.Prelude.{◌≡◌, ◌∷◌, [], length};
 ghost use Rattle.std.specs.Int.{to_be_bytes, w32};
 ghost use Rattle.aes_core.specs.Aes.{s_box, mixed_column, xor_bytes, add_round_key, mix_columns, shift_rows, sub_bytes, next_round_key, turned_word};
 ghost use Rattle.aes_core.specs.Words.{bytes_of, row_of};
@@ -133,7 +133,8 @@ impl Columns {
 
     /// The columns of a block of sixteen bytes.
     #[inline(always)]
-    pub fn from_block(block: &[u8; 16]) -> Columns
+    pub fn from_bytes(block: &[u8]) -> Columns
+        requires { length block.now ≡ 16 }
         ensures { bytes_of result ≡ block.now }
     {
         Columns {

@@ -7,12 +7,13 @@
 
 ghost use Rattle.std.specs.Prelude.{◌≡◌, ◌≤◌};
 ghost use Rattle.aes_core.specs.Aes.{encrypted, round_key};
+ghost use Rattle.aes_core.specs.Words.{bytes_of};
 
 mod columns;
 pub mod laws;
 mod tables;
 
-use columns::Columns;
+pub use columns::Columns;
 use std::marker::Model;
 
 // x ^ n in the field, for the round key n + 1.
@@ -41,7 +42,7 @@ impl Aes128 {
     pub fn new(key: &[u8; 16]) -> Aes128
         ensures { result ≡ key.now }
     {
-        let first = Columns::from_block(key);
+        let first = Columns::from_bytes(key);
         let mut round_keys = [first; 11];
         for (i, constant) in ROUND_CONSTANTS.iter().enumerate() {
             round_keys[i + 1] = round_keys[i].next_round_key(*constant);
@@ -57,15 +58,23 @@ impl Aes128 {
         self.round_keys[n as usize].to_block()
     }
 
+    /// The cipher of a block in columns, which a chain of blocks need not leave.
+    #[inline(always)]
+    pub fn encrypt_columns(&self, block: Columns) -> Columns
+        ensures { bytes_of result ≡ encrypted self.now (bytes_of block) }
+    {
+        let mut state = block.with_key(self.round_keys[0]);
+        for i in 0..9 {
+            state = state.round(self.round_keys[i + 1]);
+        }
+        state.last_round(self.round_keys[10])
+    }
+
     /// Replaces a block by its cipher.
     pub fn encrypt(&self, block: &mut [u8; 16])
         ensures { block.new ≡ encrypted self.now block.old }
     {
-        let mut state = Columns::from_block(block).with_key(self.round_keys[0]);
-        for i in 0..9 {
-            state = state.round(self.round_keys[i + 1]);
-        }
-        *block = state.last_round(self.round_keys[10]).to_block();
+        *block = self.encrypt_columns(Columns::from_bytes(block)).to_block();
     }
 }
 

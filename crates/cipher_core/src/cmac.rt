@@ -4,7 +4,7 @@ ghost use Rattle.aes_core.specs.Aes.{encrypted, xor_bytes};
 ghost use Rattle.cipher_core.specs.Cmac.{chained, cmac, doubled, doubled_number, padded, last_block, tag_of, zero_block, HasFed};
 
 use crate::blocks::combine;
-use aes_core::Aes128;
+use aes_core::{Aes128, Columns};
 use std::marker::Model;
 
 /// The CMAC of a message that comes in pieces.
@@ -41,14 +41,17 @@ fn absorb(cipher: &Aes128, chain: &mut [u8; 16], block: &[u8])
     cipher.encrypt(chain);
 }
 
-// Takes whole blocks into the chain.
+// Takes whole blocks into the chain, which stays in columns between them.
 fn absorb_blocks(cipher: &Aes128, chain: &mut [u8; 16], bytes: &[u8])
     requires { length bytes.now % 16 ≡ 0 }
     ensures { chain.new ≡ chained cipher.now chain.old bytes.now (length bytes.now / 16) }
 {
+    let mut state = Columns::from_bytes(chain);
     for block in 0..bytes.len() / 16 {
-        absorb(cipher, chain, &bytes[16 * block..16 * block + 16]);
+        let next = Columns::from_bytes(&bytes[16 * block..16 * block + 16]);
+        state = cipher.encrypt_columns(state.with_key(next));
     }
+    *chain = state.to_block();
 }
 
 #[tactic(auto, unfolding(crate::specs::Cmac::doubled_number))]

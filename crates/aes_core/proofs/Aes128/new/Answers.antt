@@ -6,10 +6,10 @@ use Rattle.aes_core.proofs.Rounds.{AreRoundKeys-none, AreRoundKeys-more, get_or-
 use Rattle.aes_core.proofs.Aes128.new.Goals as goal
 
 pub loop-i-init : goal.loop-i-init
-loop-i-init c = record { known = AreRoundKeys-none _ _ (k ∷ k ∷ k ∷ k ∷ k ∷ k ∷ k ∷ k ∷ k ∷ k ∷ []) c.from_block-first.ensures; long = refl }
+loop-i-init c = record { known = AreRoundKeys-none _ _ (k ∷ k ∷ k ∷ k ∷ k ∷ k ∷ k ∷ k ∷ k ∷ k ∷ []) c.from_bytes-first.ensures; long = refl }
   where
     k : Columns
-    k = c.from_block-first.result
+    k = c.from_bytes-first.result
 
 pub loop-i-preserved : goal.loop-i-preserved
 loop-i-preserved c = record {

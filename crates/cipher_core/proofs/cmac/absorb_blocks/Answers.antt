@@ -1,14 +1,14 @@
-use Rattle.std.proofs.Common.{List, ℕ, ◌+◌, ◌*◌, refl, sym, ap, ◌∙◌}
-use Rattle.std.specs.Prelude.{slice_range}
-use Rattle.aes_core.specs.Aes.{encrypted, xor_bytes}
+use Rattle.std.proofs.Common.{List, ℕ, ◌+◌, ◌*◌, ap, ap₂, sym, ◌∙◌}
+use Rattle.aes_core.specs.Aes.{add_round_key, encrypted}
 use Rattle.cipher_core.specs.Cmac.{chained}
 use Rattle.cipher_core.proofs.Chain.{chained-more}
 use Rattle.cipher_core.proofs.cmac.absorb_blocks.Goals as goal
 
 pub loop-block-init : goal.loop-block-init
 unfolding chained
-loop-block-init c = refl
+loop-block-init c = c.from_bytes-state.ensures
 
 pub loop-block-preserved : goal.loop-block-preserved
+unfolding add_round_key
 loop-block-preserved c =
-    c.absorb.ensures ∙ ap (λ (x : List ℕ). encrypted c.args.cipher.now (xor_bytes x (slice_range c.args.bytes.now (16 * c.loop-block.block) (16 * c.loop-block.block + 16)))) c.loop-block.invariant ∙ sym (chained-more _ _ _ _)
+    c.encrypt_columns-state.ensures ∙ ap (encrypted c.args.cipher.now) (c.with_key.ensures ∙ ap₂ add_round_key c.loop-block.invariant c.from_bytes-next.ensures) ∙ sym (chained-more _ _ _ _)
