@@ -166,25 +166,27 @@ impl Print for Fake<'_> {
     }
 }
 
+const REFUSED: Result<(), HostFault> = Err(HostFault::Fault);
+
+// The call that is refused, how many bytes a write takes, the answer, and all calls.
+const WRITES: [(u64, usize, Result<(), HostFault>, u64); 12] = [
+    (0, 5, Ok(()), 1_2_3_4_5_6_7_8_9_8),
+    (1, 5, REFUSED, 1),
+    (1_2, 5, REFUSED, 1_2),
+    (1_2_3, 5, REFUSED, 1_2_3),
+    (1_2_3_4, 5, Ok(()), 1_2_3_4_5_6_7_8_9_8),
+    (1_2_3_4_5, 5, REFUSED, 1_2_3_4_5),
+    (1_2_3_4_5_6, 5, REFUSED, 1_2_3_4_5_6_4),
+    (1_2_3_4_5_6_7, 5, REFUSED, 1_2_3_4_5_6_7_4),
+    (1_2_3_4_5_6_7_8, 5, REFUSED, 1_2_3_4_5_6_7_8_4),
+    (1_2_3_4_5_6_7_8_9, 5, REFUSED, 1_2_3_4_5_6_7_8_9_4),
+    (1_2_3_4_5_6_7_8_9_8, 5, REFUSED, 1_2_3_4_5_6_7_8_9_8),
+    (0, 4, REFUSED, 1_2_3_4_5_6_7_4),
+];
+
 #[test]
 fn a_file_is_written_and_synced_before_it_takes_the_name(rt: HostRuntime) {
-    let fault = Err(HostFault::Fault);
-    // the call that is refused, how many bytes a write takes, the answer, and all calls
-    let rows = [
-        (0, 5, Ok(()), 1_2_3_4_5_6_7_8_9_8),
-        (1, 5, fault, 1),
-        (1_2, 5, fault, 1_2),
-        (1_2_3, 5, fault, 1_2_3),
-        (1_2_3_4, 5, Ok(()), 1_2_3_4_5_6_7_8_9_8),
-        (1_2_3_4_5, 5, fault, 1_2_3_4_5),
-        (1_2_3_4_5_6, 5, fault, 1_2_3_4_5_6_4),
-        (1_2_3_4_5_6_7, 5, fault, 1_2_3_4_5_6_7_4),
-        (1_2_3_4_5_6_7_8, 5, fault, 1_2_3_4_5_6_7_8_4),
-        (1_2_3_4_5_6_7_8_9, 5, fault, 1_2_3_4_5_6_7_8_9_4),
-        (1_2_3_4_5_6_7_8_9_8, 5, fault, 1_2_3_4_5_6_7_8_9_8),
-        (0, 4, fault, 1_2_3_4_5_6_7_4),
-    ];
-    for (refused_at, takes, answer, calls) in rows {
+    for (refused_at, takes, answer, calls) in WRITES {
         let noted = Cell::new(0u64);
         let kind = ErrorKind::StorageFull;
         let plan = Plan {
@@ -220,15 +222,16 @@ fn a_new_file_is_made_without_the_permissions_of_an_old_one(rt: HostRuntime) {
     assert_eq!(rt; noted.get(), 1_3_4_5_7_8_9_8);
 }
 
+const REFUSALS: [(ErrorKind, HostFault); 4] = [
+    (ErrorKind::NotFound, HostFault::Absent),
+    (ErrorKind::PermissionDenied, HostFault::Fault),
+    (ErrorKind::NotADirectory, HostFault::Fault),
+    (ErrorKind::OutOfMemory, HostFault::Fault),
+];
+
 #[test]
 fn only_what_is_not_found_is_absent(rt: HostRuntime) {
-    let rows = [
-        (ErrorKind::NotFound, HostFault::Absent),
-        (ErrorKind::PermissionDenied, HostFault::Fault),
-        (ErrorKind::NotADirectory, HostFault::Fault),
-        (ErrorKind::OutOfMemory, HostFault::Fault),
-    ];
-    for (kind, refusal) in rows {
+    for (kind, refusal) in REFUSALS {
         let noted = Cell::new(0u64);
         let plan = Plan {
             noted: &noted,

@@ -128,22 +128,23 @@ fn places_among<L: Ledger>(
     Ok((put(rt, &mut table, &mut reader, letter, &mut steps)?, after))
 }
 
+const PLACES: [(u32, &[u8], u8, u32, bool, u32); 10] = [
+    (4, b"", b'a', 0, false, 0),
+    (4, b"abc", b'c', 0, true, 1),
+    (4, b"abc", b'b', 1, true, 2),
+    (4, b"abc", b'a', 2, true, 3),
+    (4, b"ba", b'c', 0, false, 0),
+    (4, b"ca", b'b', 1, false, 1),
+    (4, b"cb", b'a', 2, false, 2),
+    (8, b"abc", b'b', 0, true, 1),
+    (8, b"abc", b'c', 1, true, 2),
+    (8, b"ba", b'c', 1, false, 1),
+];
+
 // With 4 bits the hashes of a, b and c are 12, 6 and 0; with 8 bits they are 188, 6 and 144.
 #[test]
 fn keys_are_in_the_order_of_their_hashes(rt: HostRuntime) -> Result<(), Fail> {
-    let cases: [(u32, &[u8], u8, u32, bool, u32); 10] = [
-        (4, b"", b'a', 0, false, 0),
-        (4, b"abc", b'c', 0, true, 1),
-        (4, b"abc", b'b', 1, true, 2),
-        (4, b"abc", b'a', 2, true, 3),
-        (4, b"ba", b'c', 0, false, 0),
-        (4, b"ca", b'b', 1, false, 1),
-        (4, b"cb", b'a', 2, false, 2),
-        (8, b"abc", b'b', 0, true, 1),
-        (8, b"abc", b'c', 1, true, 2),
-        (8, b"ba", b'c', 1, false, 1),
-    ];
-    for (hash_bits, others, letter, at, found, after) in cases.iter() {
+    for (hash_bits, others, letter, at, found, after) in PLACES.iter() {
         let places = places_among::<Brand>(
             &rt,
             rt.alloc(),
@@ -164,18 +165,19 @@ fn keys_are_in_the_order_of_their_hashes(rt: HostRuntime) -> Result<(), Fail> {
     Ok(())
 }
 
+const PLACES_OF_EQUAL_HASHES: [(&[u8], u8, u32, bool, u32); 6] = [
+    (b"cba", b'a', 0, true, 1),
+    (b"cba", b'b', 1, true, 2),
+    (b"cba", b'c', 2, true, 3),
+    (b"bc", b'a', 0, false, 0),
+    (b"ac", b'b', 1, false, 1),
+    (b"ab", b'c', 2, false, 2),
+];
+
 // With no bits all hashes are 0.
 #[test]
 fn equal_hashes_are_told_apart_by_keys(rt: HostRuntime) -> Result<(), Fail> {
-    let cases: [(&[u8], u8, u32, bool, u32); 6] = [
-        (b"cba", b'a', 0, true, 1),
-        (b"cba", b'b', 1, true, 2),
-        (b"cba", b'c', 2, true, 3),
-        (b"bc", b'a', 0, false, 0),
-        (b"ac", b'b', 1, false, 1),
-        (b"ab", b'c', 2, false, 2),
-    ];
-    for (others, letter, at, found, after) in cases.iter() {
+    for (others, letter, at, found, after) in PLACES_OF_EQUAL_HASHES.iter() {
         let places = places_among::<Brand>(&rt, rt.alloc(), Blank::new(1), 0, others, *letter)?;
         assert_eq!(rt;
             places.0,

@@ -88,71 +88,73 @@ fn each_other_form_of_a_line(rt: HostRuntime) -> Result<(), Fail> {
     Ok(())
 }
 
+const SCRIPTS: [(&[u8], ScriptMode, usize); 14] = [
+    (b"", PLAIN, 0),
+    (b"\n", PLAIN, 0),
+    (b"# a comment", PLAIN, 0),
+    (b"#\n\n1 get a\n", PLAIN, 1),
+    (b"1 set a 00ff -\n1 get a", PLAIN, 2),
+    (b"1 set a - -\n", PLAIN, 1),
+    (b"1 set a 0aA0 wcr\n# get\n", PLAIN, 1),
+    (
+        b"1 info a\n1 remove a\n2 finish\n2 abort\n2 reset",
+        PLAIN,
+        5,
+    ),
+    (b"1 open 0 *\n1 next 0\n1 close 0", PLAIN, 3),
+    (
+        b"0 mount\n0 cut p:1:none\n0 cut p:4294967295:half",
+        PLAIN,
+        3,
+    ),
+    (
+        b"0 cut r:1:zero\n0 cut r:10:all\n0 cut p:1:mix:4294967295",
+        SECURE,
+        3,
+    ),
+    (b"1 start a 1 -", PLAIN, 1),
+    (b"1 start a 1 -\n2 get a\n1 abort", THREADS, 3),
+    (b"1 start a 1 -\n1 start b 2 -\n1 finish", THREADS, 3),
+];
+
 #[test]
 fn texts_that_are_scripts(rt: HostRuntime) -> Result<(), Fail> {
-    let texts: [(&[u8], ScriptMode, usize); 14] = [
-        (b"", PLAIN, 0),
-        (b"\n", PLAIN, 0),
-        (b"# a comment", PLAIN, 0),
-        (b"#\n\n1 get a\n", PLAIN, 1),
-        (b"1 set a 00ff -\n1 get a", PLAIN, 2),
-        (b"1 set a - -\n", PLAIN, 1),
-        (b"1 set a 0aA0 wcr\n# get\n", PLAIN, 1),
-        (
-            b"1 info a\n1 remove a\n2 finish\n2 abort\n2 reset",
-            PLAIN,
-            5,
-        ),
-        (b"1 open 0 *\n1 next 0\n1 close 0", PLAIN, 3),
-        (
-            b"0 mount\n0 cut p:1:none\n0 cut p:4294967295:half",
-            PLAIN,
-            3,
-        ),
-        (
-            b"0 cut r:1:zero\n0 cut r:10:all\n0 cut p:1:mix:4294967295",
-            SECURE,
-            3,
-        ),
-        (b"1 start a 1 -", PLAIN, 1),
-        (b"1 start a 1 -\n2 get a\n1 abort", THREADS, 3),
-        (b"1 start a 1 -\n1 start b 2 -\n1 finish", THREADS, 3),
-    ];
-    for (text, mode, lines) in texts {
+    for (text, mode, lines) in SCRIPTS {
         assert_eq!(rt; count(rt.alloc(), text, mode), Ok(lines));
     }
     Ok(())
 }
 
+const BAD_LINES: [(&[u8], u32); 24] = [
+    (b"1 get a\n1 frob", 2),
+    (b"#\n\n1 get a\n\n1 get", 5),
+    (b"0 get a", 1),
+    (b"17 get a", 1),
+    (b"01 get a", 1),
+    (b"+1 get a", 1),
+    (b" get a", 1),
+    (b" 1 get a", 1),
+    (b"1  get a", 1),
+    (b"1 get  a", 1),
+    (b"1 get a ", 1),
+    (b"1 get a\r\n", 1),
+    (b"1 get a b", 1),
+    (b"1 get \x7f", 1),
+    (b"1 GET a", 1),
+    (b"1", 1),
+    (b"1 set a 0 -", 1),
+    (b"1 set a 00f -", 1),
+    (b"1 set a 0g -", 1),
+    (b"1 set a  -", 1),
+    (b"1 set a 00", 1),
+    (b"1 set a 00 cw", 1),
+    (b"1 set a 00 ww", 1),
+    (b"1 set a 00 x\n1 get a", 1),
+];
+
 #[test]
 fn bad_lines_are_named_by_their_number(rt: HostRuntime) -> Result<(), Fail> {
-    let texts: [(&[u8], u32); 24] = [
-        (b"1 get a\n1 frob", 2),
-        (b"#\n\n1 get a\n\n1 get", 5),
-        (b"0 get a", 1),
-        (b"17 get a", 1),
-        (b"01 get a", 1),
-        (b"+1 get a", 1),
-        (b" get a", 1),
-        (b" 1 get a", 1),
-        (b"1  get a", 1),
-        (b"1 get  a", 1),
-        (b"1 get a ", 1),
-        (b"1 get a\r\n", 1),
-        (b"1 get a b", 1),
-        (b"1 get \x7f", 1),
-        (b"1 GET a", 1),
-        (b"1", 1),
-        (b"1 set a 0 -", 1),
-        (b"1 set a 00f -", 1),
-        (b"1 set a 0g -", 1),
-        (b"1 set a  -", 1),
-        (b"1 set a 00", 1),
-        (b"1 set a 00 cw", 1),
-        (b"1 set a 00 ww", 1),
-        (b"1 set a 00 x\n1 get a", 1),
-    ];
-    for (text, line) in texts {
+    for (text, line) in BAD_LINES {
         assert_eq!(rt;
             count(rt.alloc(), text, PLAIN),
             Err(ScriptError::BadLine { line })
@@ -161,35 +163,36 @@ fn bad_lines_are_named_by_their_number(rt: HostRuntime) -> Result<(), Fail> {
     Ok(())
 }
 
+const BAD_IN_A_MODE: [(&[u8], ScriptMode, u32); 24] = [
+    (b"1 part a 0", PLAIN, 1),
+    (b"1 part a 00 1", PLAIN, 1),
+    (b"1 part a 0 4294967296", PLAIN, 1),
+    (b"1 start a - -", PLAIN, 1),
+    (b"1 add 0", PLAIN, 1),
+    (b"1 add", PLAIN, 1),
+    (b"1 finish a", PLAIN, 1),
+    (b"1 open 256 *", PLAIN, 1),
+    (b"1 open 0 a", PLAIN, 1),
+    (b"1 next 256", PLAIN, 1),
+    (b"1 mount", PLAIN, 1),
+    (b"1 cut p:1:none", PLAIN, 1),
+    (b"0 cut p:0:none", SECURE, 1),
+    (b"0 cut q:1:none", SECURE, 1),
+    (b"0 cut p:1:some", SECURE, 1),
+    (b"0 cut p:1:mix", SECURE, 1),
+    (b"0 cut p:1:mix:01", SECURE, 1),
+    (b"0 cut p:1", SECURE, 1),
+    (b"0 mount\n0 cut r:1:none", PLAIN, 2),
+    (b"0 mount", THREADS, 1),
+    (b"1 get a\n0 cut p:1:none", THREADS, 2),
+    (b"1 start a 1 -\n1 add 00", THREADS, 1),
+    (b"1 start a 1 -\n2 finish\n1 finish 1", THREADS, 1),
+    (b"1 finish\n1 start a 1 -\n1 frob", THREADS, 2),
+];
+
 #[test]
 fn lines_that_a_number_or_a_mode_makes_bad(rt: HostRuntime) -> Result<(), Fail> {
-    let texts: [(&[u8], ScriptMode, u32); 24] = [
-        (b"1 part a 0", PLAIN, 1),
-        (b"1 part a 00 1", PLAIN, 1),
-        (b"1 part a 0 4294967296", PLAIN, 1),
-        (b"1 start a - -", PLAIN, 1),
-        (b"1 add 0", PLAIN, 1),
-        (b"1 add", PLAIN, 1),
-        (b"1 finish a", PLAIN, 1),
-        (b"1 open 256 *", PLAIN, 1),
-        (b"1 open 0 a", PLAIN, 1),
-        (b"1 next 256", PLAIN, 1),
-        (b"1 mount", PLAIN, 1),
-        (b"1 cut p:1:none", PLAIN, 1),
-        (b"0 cut p:0:none", SECURE, 1),
-        (b"0 cut q:1:none", SECURE, 1),
-        (b"0 cut p:1:some", SECURE, 1),
-        (b"0 cut p:1:mix", SECURE, 1),
-        (b"0 cut p:1:mix:01", SECURE, 1),
-        (b"0 cut p:1", SECURE, 1),
-        (b"0 mount\n0 cut r:1:none", PLAIN, 2),
-        (b"0 mount", THREADS, 1),
-        (b"1 get a\n0 cut p:1:none", THREADS, 2),
-        (b"1 start a 1 -\n1 add 00", THREADS, 1),
-        (b"1 start a 1 -\n2 finish\n1 finish 1", THREADS, 1),
-        (b"1 finish\n1 start a 1 -\n1 frob", THREADS, 2),
-    ];
-    for (text, mode, line) in texts {
+    for (text, mode, line) in BAD_IN_A_MODE {
         assert_eq!(rt;
             count(rt.alloc(), text, mode),
             Err(ScriptError::BadLine { line })
@@ -204,28 +207,29 @@ fn lines_that_a_number_or_a_mode_makes_bad(rt: HostRuntime) -> Result<(), Fail> 
     Ok(())
 }
 
+const CANONICAL_LINES: [(&[u8], &[u8]); 17] = [
+    (b"1 get /?", b"1 get /?"),
+    (b"16 part k 0 10", b"16 part k 0 10"),
+    (b"9 info k", b"9 info k"),
+    (b"10 set k 0Aff wcr", b"10 set k 0aff wcr"),
+    (b"1 set k - -", b"1 set k - -"),
+    (b"1 remove k", b"1 remove k"),
+    (b"1 start k 4294967295 cr", b"1 start k 4294967295 cr"),
+    (b"1 add BE", b"1 add be"),
+    (b"1 finish", b"1 finish"),
+    (b"1 abort", b"1 abort"),
+    (b"1 open 255 a*", b"1 open 255 a*"),
+    (b"1 next 0", b"1 next 0"),
+    (b"1 close 7", b"1 close 7"),
+    (b"1 reset", b"1 reset"),
+    (b"0 mount", b"0 mount"),
+    (b"0 cut p:1:half", b"0 cut p:1:half"),
+    (b"0 cut r:20:mix:3\n", b"0 cut r:20:mix:3"),
+];
+
 #[test]
 fn lines_are_printed_in_their_canonical_spelling(rt: HostRuntime) -> Result<(), Fail> {
-    let texts: [(&[u8], &[u8]); 17] = [
-        (b"1 get /?", b"1 get /?"),
-        (b"16 part k 0 10", b"16 part k 0 10"),
-        (b"9 info k", b"9 info k"),
-        (b"10 set k 0Aff wcr", b"10 set k 0aff wcr"),
-        (b"1 set k - -", b"1 set k - -"),
-        (b"1 remove k", b"1 remove k"),
-        (b"1 start k 4294967295 cr", b"1 start k 4294967295 cr"),
-        (b"1 add BE", b"1 add be"),
-        (b"1 finish", b"1 finish"),
-        (b"1 abort", b"1 abort"),
-        (b"1 open 255 a*", b"1 open 255 a*"),
-        (b"1 next 0", b"1 next 0"),
-        (b"1 close 7", b"1 close 7"),
-        (b"1 reset", b"1 reset"),
-        (b"0 mount", b"0 mount"),
-        (b"0 cut p:1:half", b"0 cut p:1:half"),
-        (b"0 cut r:20:mix:3\n", b"0 cut r:20:mix:3"),
-    ];
-    for (text, canonical) in texts {
+    for (text, canonical) in CANONICAL_LINES {
         let script = parse_script(rt.alloc(), text, SECURE)?;
         let line = script.lines().first().ok_or("no line")?;
         let printed = print_line(rt.alloc(), line)?;

@@ -235,25 +235,26 @@ fn no_other_key_or_length_is_accepted(rt: HostRuntime) {
     assert!(rt; open_in_two(&key, &mut longer, 0).is_err());
 }
 
+const BROKEN_RULES: [(&str, usize, u8); 12] = [
+    ("another metadata size", 0, 41),
+    ("the metadata size of revision 1", 0, 20),
+    ("a metadata size of two bytes", 1, 1),
+    ("revision 1 with 40 bytes", 2, 1),
+    ("revision 3", 2, 3),
+    ("another value size", 4, 21),
+    ("a value size above 65,536", 6, 1),
+    ("a flag that there isn't", 8, 4),
+    ("a high flag", 11, 0x80),
+    ("a prior of kind 0", 20, 0),
+    ("prior kind 2", 20, 2),
+    ("a prior kind of four bytes", 23, 1),
+];
+
 // One rule of the metadata broken in each row, by one byte.
 #[test]
 fn metadata_of_neither_revision_is_refused(rt: HostRuntime) {
     let key = cert(&rt);
-    let rows = [
-        ("another metadata size", 0, 41),
-        ("the metadata size of revision 1", 0, 20),
-        ("a metadata size of two bytes", 1, 1),
-        ("revision 1 with 40 bytes", 2, 1),
-        ("revision 3", 2, 3),
-        ("another value size", 4, 21),
-        ("a value size above 65,536", 6, 1),
-        ("a flag that there isn't", 8, 4),
-        ("a high flag", 11, 0x80),
-        ("a prior of kind 0", 20, 0),
-        ("prior kind 2", 20, 2),
-        ("a prior kind of four bytes", 23, 1),
-    ];
-    for (rule, place, byte) in rows {
+    for (rule, place, byte) in BROKEN_RULES {
         let mut head = [0; 40];
         head.copy_from_slice(&SECOND[..40]);
         assert!(rt; OpenStream::new(&ROOT, &key, &head, 76).is_ok());
