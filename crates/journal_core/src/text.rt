@@ -1,6 +1,6 @@
 // The printed form of replies. Each function appends to the text, and refuses for want of memory
 // alone.
-ghost use Rattle.std.specs.Prelude.{◌≡◌, ◌++◌, OnOk, codes};
+ghost use Rattle.std.specs.Prelude.{◌≡◌, ◌<◌, ◌+◌, ◌++◌, ◌∷◌, [], OnOk, codes};
 ghost use Rattle.std.specs.Fmt.{decimal};
 ghost use Rattle.journal_core.specs.Clients.{entries_by};
 ghost use Rattle.journal_core.specs.Texts.{hex_text, flags_text, crc_text, details_text, refusal_text, reply_text, entry_line, text_of};
@@ -14,11 +14,23 @@ fn push_bytes(text: &mut Vec<u8>, bytes: &[u8]) -> Result<(), NoMemory>
     Ok(text.extend_from_slice(bytes)?)
 }
 
-fn push_number(alloc: Global, text: &mut Vec<u8>, number: u32) -> Result<(), NoMemory>
+fn push_digit(text: &mut Vec<u8>, digit: u8) -> Result<(), NoMemory>
+    requires { digit < 10 }
+    ensures { OnOk result (text.new.items ≡ text.old.items ++ (48 + digit) ∷ []) }
+{
+    Ok(text.push(b'0' + digit)?)
+}
+
+// The digits are put into the text one by one, since a string of them would take memory of its own.
+#[tactic(auto, using(crate::proofs::TextLemmas::one_digit, crate::proofs::TextLemmas::digits_more))]
+fn push_number(text: &mut Vec<u8>, number: u32) -> Result<(), NoMemory>
     ensures { OnOk result (text.new.items ≡ text.old.items ++ decimal number) }
 {
-    let digits = number.to_string(alloc)?;
-    push_bytes(text, digits.as_bytes())
+    if number < 10 {
+        return push_digit(text, number as u8);
+    }
+    push_number(text, number / 10)?;
+    push_digit(text, (number % 10) as u8)
 }
 
 #[tactic(auto, using(crate::proofs::TextLemmas::hex_cases))]
@@ -63,13 +75,13 @@ fn push_details(alloc: Global, text: &mut Vec<u8>, error: KvError) -> Result<(),
     match error {
         KvError::MediaFull { need, room } => {
             push_bytes(text, b" need ")?;
-            push_number(alloc, text, need)?;
+            push_number(text, need)?;
             push_bytes(text, b" room ")?;
-            push_number(alloc, text, room)
+            push_number(text, room)
         }
         KvError::Busy { owner } => {
             push_bytes(text, b" ")?;
-            push_number(alloc, text, owner as u32)
+            push_number(text, owner as u32)
         }
         KvError::Corrupt { stored, computed } => {
             push_bytes(text, b" ")?;
@@ -85,7 +97,7 @@ fn push_refusal(alloc: Global, text: &mut Vec<u8>, error: KvError) -> Result<(),
     ensures { OnOk result (text.new.items ≡ text.old.items ++ refusal_text error) }
 {
     push_bytes(text, b"error ")?;
-    push_number(alloc, text, error.number() as u32)?;
+    push_number(text, error.number() as u32)?;
     push_bytes(text, b" ")?;
     push_bytes(text, error.text().as_bytes())?;
     push_details(alloc, text, error)
@@ -102,7 +114,7 @@ fn push_reply(alloc: Global, text: &mut Vec<u8>, reply: &Reply) -> Result<(), No
         }
         Reply::Facts { size, flags } => {
             push_bytes(text, b"ok ")?;
-            push_number(alloc, text, *size)?;
+            push_number(text, *size)?;
             push_bytes(text, b" ")?;
             push_bytes(text, letters_of(*flags))
         }
@@ -119,9 +131,9 @@ fn push_reply(alloc: Global, text: &mut Vec<u8>, reply: &Reply) -> Result<(), No
 fn push_entry(alloc: Global, text: &mut Vec<u8>, entry: &Entry) -> Result<(), NoMemory>
     ensures { OnOk result (text.new.items ≡ text.old.items ++ entry_line entry.now) }
 {
-    push_number(alloc, text, entry.who as u32)?;
+    push_number(text, entry.who as u32)?;
     push_bytes(text, b" ")?;
-    push_number(alloc, text, entry.index)?;
+    push_number(text, entry.index)?;
     push_bytes(text, b" ")?;
     push_reply(alloc, text, &entry.reply)?;
     push_bytes(text, b"\n")

@@ -4,11 +4,12 @@ use Rattle.std.specs.Prelude.{◌||◌, MatchBool}
 use Rattle.std.specs.List.{list_any}
 use Rattle.std.proofs.lemmas.Bool.{lt-ltb, le-ltb, eqb-true}
 use Rattle.std.specs.Option.{option_map_or}
+use Rattle.script_core.specs.declared.script.ScriptMode.{ScriptMode}
 use Rattle.script_core.specs.Reading.{ended_by, ends_set, last_end, TellsEnds}
 
--- the numbers of last ends, behind the line of this number
-abbrev pub KnowsEnds : List ℕ → ℕ → List (List ℕ) → Type 0
-KnowsEnds ends number left = (who : ℕ) → who ≤ 16 → max number (last_end who (number + 1) left) ≡ max number (get_or ends who 0)
+-- on threads, the numbers of last ends, behind the line of this number
+abbrev pub KnowsEnds : ScriptMode → List ℕ → ℕ → List (List ℕ) → Type 0
+KnowsEnds mode ends number left = mode.threads ≡ true → (who : ℕ) → who ≤ 16 → max number (last_end who (number + 1) left) ≡ max number (get_or ends who 0)
 
 -- a last end is among the lines, or there is none
 cases_of : (b any : Bool) (first last : ℕ) → MatchBool any (first + 1 ≤ last) (last ≡ 0) → MatchBool (b || any) (first ≤ max (cond b first 0) last) (max (cond b first 0) last ≡ 0)
@@ -25,23 +26,23 @@ next_of : (b : Bool) (number last end : ℕ) → max number (max (cond b (number
 next_of true number last end h = omega arith
 next_of false number last end h = omega arith
 
-pub KnowsEnds-next : (ends : List ℕ) (number : ℕ) (text : List ℕ) (left later : List (List ℕ)) → left ≡ text ∷ later → KnowsEnds ends number left → KnowsEnds ends (number + 1) later
+pub KnowsEnds-next : (mode : ScriptMode) (ends : List ℕ) (number : ℕ) (text : List ℕ) (left later : List (List ℕ)) → left ≡ text ∷ later → KnowsEnds mode ends number left → KnowsEnds mode ends (number + 1) later
 unfolding last_end
-KnowsEnds-next ends number text left later next h who low =
-    let here : max number (last_end who (number + 1) (text ∷ later)) ≡ max number (get_or ends who 0) = ap (λ (t : List (List ℕ)). max number (last_end who (number + 1) t)) (sym next) ∙ h who low in
+KnowsEnds-next mode ends number text left later next h threads who low =
+    let here : max number (last_end who (number + 1) (text ∷ later)) ≡ max number (get_or ends who 0) = ap (λ (t : List (List ℕ)). max number (last_end who (number + 1) t)) (sym next) ∙ h threads who low in
     next_of (ends_set who text) number (last_end who (number + 1 + 1) later) (get_or ends who 0) here
 
 told_of : (any : Bool) (number last end : ℕ) → MatchBool any (number + 1 ≤ last) (last ≡ 0) → max number last ≡ max number end → ltb number end ≡ any
 told_of true number last end h e = lt-ltb _ _ (omega arith)
 told_of false number last end h e = le-ltb _ _ (omega arith)
 
-pub TellsEnds-known : (ends : List ℕ) (number : ℕ) (later : List (List ℕ)) → KnowsEnds ends number later → TellsEnds ends number later
-TellsEnds-known ends number later h who low =
-    told_of (list_any (ends_set who) later) number (last_end who (number + 1) later) (get_or ends who 0) (last_end-cases who (number + 1) later) (h who low)
+pub TellsEnds-known : (mode : ScriptMode) (ends : List ℕ) (number : ℕ) (later : List (List ℕ)) → KnowsEnds mode ends number later → TellsEnds mode ends number later
+TellsEnds-known mode ends number later h threads who low =
+    told_of (list_any (ends_set who) later) number (last_end who (number + 1) later) (get_or ends who 0) (last_end-cases who (number + 1) later) (h threads who low)
 
 -- before the first line
-pub KnowsEnds-all : (ends : List ℕ) (texts : List (List ℕ)) → ((who : ℕ) → who ≤ 16 → get_or ends who 0 ≡ last_end who 1 texts) → KnowsEnds ends 0 texts
-KnowsEnds-all ends texts h who low = ap (λ (n : ℕ). max 0 n) (sym (h who low))
+pub KnowsEnds-all : (mode : ScriptMode) (ends : List ℕ) (texts : List (List ℕ)) → (mode.threads ≡ true → (who : ℕ) → who ≤ 16 → get_or ends who 0 ≡ last_end who 1 texts) → KnowsEnds mode ends 0 texts
+KnowsEnds-all mode ends texts h threads who low = ap (λ (n : ℕ). max 0 n) (sym (h threads who low))
 
 -- ---- the walk that finds them
 

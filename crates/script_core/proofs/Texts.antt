@@ -243,12 +243,6 @@ full_answer (faults.TooManyCalls number) mode text h line e = let same : number 
 full_answer (faults.BadLine number) mode text h line e = absurd cc
 full_answer faults.Memory mode text h line e = absurd cc
 
--- what is refused in a reading without memory is no want of it
-pub never_memory : {X : Type 0} (fault : ScriptError) (read : Outcome) → Refuses fault read → refused fault ≡ refused faults.Memory → X
-never_memory (faults.BadLine number) read h e = absurd cc
-never_memory (faults.TooManyCalls number) read h e = absurd cc
-never_memory faults.Memory read h e = absurd h
-
 good_text : (mode : ScriptMode) (text : List ℕ) (read : Outcome) → read_text mode text ≡ read → IsOk read → (lines : List Line) × IsScript mode text lines
 good_text mode text (Ok lines) is good = (lines, read_text-is_ok mode text lines is)
 good_text mode text (Err fault) is good = absurd cc

@@ -63,11 +63,6 @@ Counted-next mode number before count text left later all next one so_far =
     counts_on mode number count so_far.lines text left later all (read_one mode number so_far.lines text later) next refl (one so_far.lines so_far.many) so_far.same
 
 -- what stops the counting is what reading gives
-pub Refuses-Ends : (fault : ScriptError) (read : Outcome) → Refuses fault read → Ends fault read
-Refuses-Ends (faults.BadLine line) read h = h
-Refuses-Ends (faults.TooManyCalls line) read h = h
-Refuses-Ends faults.Memory read h = absurd h
-
 refuses_at : (fault : ScriptError) (mode : ScriptMode) (number : ℕ) (lines : List Line) (text : List ℕ) (left later : List (List ℕ)) (all : Outcome) → left ≡ text ∷ later
     → Refuses fault (read_one mode number lines text later) → read_from mode number lines left ≡ all → Refuses fault all
 refuses_at (faults.BadLine line) mode number lines text left later all next one so_far = ends_at (faults.BadLine line) mode number lines text left later all next one so_far

@@ -314,9 +314,9 @@ unfoldable pub last_end : ℕ → ℕ → List (List ℕ) → ℕ
 last_end who first [] = 0
 last_end who first (text ∷ texts) = max (if ends_set who text then first else 0) (last_end who (first + 1) texts)
 
--- for each client, whether one of the later lines ends its set is told by the number of the last one that does
-abbrev pub TellsEnds : List ℕ → ℕ → List (List ℕ) → Type 0
-TellsEnds ends number later = (who : ℕ) → who ≤ 16 → nat_lt number (slice_index ends who) ≡ list_any (ends_set who) later
+-- on threads, which alone ask for it: for each client, whether one of the later lines ends its set is told by the number of the last one that does
+abbrev pub TellsEnds : ScriptMode → List ℕ → ℕ → List (List ℕ) → Type 0
+TellsEnds mode ends number later = mode.threads ≡ true → (who : ℕ) → who ≤ 16 → nat_lt number (slice_index ends who) ≡ list_any (ends_set who) later
 
 abbrev pub is_start : Act → Bool
 is_start (Do (call.Start key size flags)) = true

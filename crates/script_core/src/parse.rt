@@ -1,10 +1,10 @@
-ghost use Rattle.std.specs.Prelude.{◌≡◌, ◌<◌, ◌+◌, ◌^◌, ◌⊎◌, ℕ, List, [], ◌∷◌, ◌++◌, length, IfOk, IsSome, OnOk, OnErr};
+ghost use Rattle.std.specs.Prelude.{◌≡◌, ◌<◌, ◌+◌, ◌^◌, ◌⊎◌, ℕ, List, [], ◌∷◌, ◌++◌, length, IfErr, IfOk, IsOk, IsSome, OnOk, OnErr};
 ghost use Rattle.script_core.specs.declared.line.Line.{Line};
 ghost use Rattle.script_core.specs.Grammar.{is_skipped, IsScript, IsFirstBad, IsOneTooMany};
 ghost use Rattle.script_core.specs.Spelled.{spelled_act, spelled_line};
 ghost use Rattle.script_core.specs.Reading.{GivesLine, HasTested, HasCounted, HasChecked, HasReadOne, IsOutcome, Answers, TellsEnds, is_start, cuts_rollback, is_allowed, good_line_of, read_one, read_text};
 
-use crate::ends::last_ends;
+use crate::ends::ends_for;
 use crate::error::{Malformed, ScriptError};
 use crate::line::{Line, Side};
 use crate::parts::Parts;
@@ -66,7 +66,7 @@ fn good_line<'a>(
     number: u32,
     text: &'a [u8],
 ) -> Result<SpelledLine<'a>, Malformed>
-    ensures { (later : List (List ℕ)) → TellsEnds ends.now number later →
+    ensures { (later : List (List ℕ)) → TellsEnds mode ends.now number later →
         GivesLine result (good_line_of mode later text.now) }
 {
     let line = reading::line(text)?;
@@ -86,8 +86,9 @@ fn test_one<'a>(
     count: usize,
     text: &'a [u8],
 ) -> Result<Option<SpelledLine<'a>>, ScriptError>
-    ensures tested { (later : List (List ℕ)) (lines : List Line) → TellsEnds ends.now number later →
-        length lines ≡ count → HasTested result lines (read_one mode number lines text.now later) }
+    ensures tested { (later : List (List ℕ)) (lines : List Line) →
+        TellsEnds mode ends.now number later → length lines ≡ count →
+        HasTested result lines (read_one mode number lines text.now later) }
     ensures room { IfOk result (λ found. IsSome found → count < 8192) }
 {
     if is_skipped(text) {
@@ -110,8 +111,9 @@ fn count_one(
     count: usize,
     text: &[u8],
 ) -> Result<usize, ScriptError>
-    ensures { (later : List (List ℕ)) (lines : List Line) → TellsEnds ends.now number later →
-        length lines ≡ count → HasCounted result (read_one mode number lines text.now later) }
+    ensures { (later : List (List ℕ)) (lines : List Line) →
+        TellsEnds mode ends.now number later → length lines ≡ count →
+        HasCounted result (read_one mode number lines text.now later) }
 {
     match test_one(mode, ends, number, count, text) {
         Ok(Some(_)) => Ok(count + 1),
@@ -125,7 +127,7 @@ fn check(mode: ScriptMode, bytes: &[u8]) -> Result<(), ScriptError>
     requires { length bytes.now + 1 < 2 ^ 32 }
     ensures { HasChecked result (read_text mode bytes.now) }
 {
-    let ends = last_ends(bytes);
+    let ends = ends_for(mode, bytes);
     let mut count = 0usize;
     let mut number = 0u32;
     for text in Parts::new(b'\n', bytes) {
@@ -155,7 +157,7 @@ fn read_one(
     lines: &mut Vec<Line>,
     text: &[u8],
 ) -> Result<(), ScriptError>
-    ensures read { (later : List (List ℕ)) → TellsEnds ends.now number later →
+    ensures read { (later : List (List ℕ)) → TellsEnds mode ends.now number later →
         HasReadOne result lines.new.items (read_one mode number lines.old.items text.now later) }
     ensures stands { OnErr result (lines.new.items ≡ lines.old.items) }
 {
@@ -173,7 +175,7 @@ fn read(alloc: Global, mode: ScriptMode, bytes: &[u8]) -> Result<Vec<Line>, Scri
     requires { length bytes.now + 1 < 2 ^ 32 }
     ensures { IsOutcome (λ lines. lines.items) result (read_text mode bytes.now) }
 {
-    let ends = last_ends(bytes);
+    let ends = ends_for(mode, bytes);
     let mut lines = Vec::new(alloc);
     let mut number = 0u32;
     for text in Parts::new(b'\n', bytes) {
@@ -181,6 +183,23 @@ fn read(alloc: Global, mode: ScriptMode, bytes: &[u8]) -> Result<Vec<Line>, Scri
         read_one(alloc, mode, &ends, number, &mut lines, text)?;
     }
     Ok(lines)
+}
+
+// The lines of a text. Where memory is wanting the text is looked through without any, so that a bad
+// line is named all the same.
+fn read_lines(alloc: Global, mode: ScriptMode, bytes: &[u8]) -> Result<Vec<Line>, ScriptError>
+    requires { length bytes.now + 1 < 2 ^ 32 }
+    ensures read { IsOutcome (λ lines. lines.items) result (read_text mode bytes.now) }
+    ensures memory { IfErr result (λ fault.
+        fault ≡ ScriptError.Memory → IsOk (read_text mode bytes.now)) }
+{
+    match read(alloc, mode, bytes) {
+        Err(ScriptError::Memory) => {
+            check(mode, bytes)?;
+            Err(ScriptError::Memory)
+        }
+        outcome => outcome,
+    }
 }
 
 /// The script that a text is. `bytes` has fewer than 4,294,967,295 bytes. Every answer but
@@ -202,7 +221,6 @@ pub fn parse_script(alloc: Global, bytes: &[u8], mode: ScriptMode) -> Result<Scr
     ensures memory { result ≡ Err ScriptError.Memory →
         (script : List Line) × IsScript mode bytes.now script }
 {
-    check(mode, bytes)?;
-    let lines = read(alloc, mode, bytes)?;
+    let lines = read_lines(alloc, mode, bytes)?;
     Ok(Script::new(lines))
 }

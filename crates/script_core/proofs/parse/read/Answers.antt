@@ -16,16 +16,16 @@ loop-text-init c =
     record {
       same = rw (left, c.new-lines.ensures.items) refl;
       count = omega (arith, ap length left);
-      ends = rw left (KnowsEnds-all c.last_ends-ends.result (lines_of c.args.bytes.now) c.last_ends-ends.ensures);
+      ends = rw left (KnowsEnds-all c.args.mode c.ends_for-ends.result (lines_of c.args.bytes.now) c.ends_for-ends.ensures);
     }
 
 pub loop-text-preserved : goal.loop-text-preserved
 loop-text-preserved c =
-    let ends = KnowsEnds-next c.last_ends-ends.result c.loop-text.number c.in-Some.text.now (parts_left c.loop-text.text-iterator) (parts_left c.next.new.self) c.in-Some.ensures.steps c.loop-text.invariant.ends in
+    let ends = KnowsEnds-next c.args.mode c.ends_for-ends.result c.loop-text.number c.in-Some.text.now (parts_left c.loop-text.text-iterator) (parts_left c.next.new.self) c.in-Some.ensures.steps c.loop-text.invariant.ends in
     record {
       same = goes_on c.args.mode (c.loop-text.number + 1) c.loop-text.lines.items c.read_one.new.lines.items c.in-Some.text.now (parts_left c.loop-text.text-iterator)
           (parts_left c.next.new.self) (read_text c.args.mode c.args.bytes.now) c.in-Some.ensures.steps
-          (c.in_ok-read_one.ensures.read (parts_left c.next.new.self) (TellsEnds-known c.last_ends-ends.result (c.loop-text.number + 1) (parts_left c.next.new.self) ends)) c.loop-text.invariant.same;
+          (c.in_ok-read_one.ensures.read (parts_left c.next.new.self) (TellsEnds-known c.args.mode c.ends_for-ends.result (c.loop-text.number + 1) (parts_left c.next.new.self) ends)) c.loop-text.invariant.same;
       count = omega (arith, ap length c.in-Some.ensures.steps, c.loop-text.invariant.count);
       ends = ends;
     }
@@ -33,10 +33,10 @@ loop-text-preserved c =
 pub returns-in_err-read_one : goal.returns-in_err-read_one
 returns-in_err-read_one c =
     let p = err_from_is_err_and c.from_residual.result c.from_residual.ensures.1 in
-    let ends = KnowsEnds-next c.last_ends-ends.result c.loop-text.number c.in-Some.text.now (parts_left c.loop-text.text-iterator) (parts_left c.next.new.self) c.in-Some.ensures.steps c.loop-text.invariant.ends in
+    let ends = KnowsEnds-next c.args.mode c.ends_for-ends.result c.loop-text.number c.in-Some.text.now (parts_left c.loop-text.text-iterator) (parts_left c.next.new.self) c.in-Some.ensures.steps c.loop-text.invariant.ends in
     rw (p.1, p.2) (ends_at c.in_err-read_one.field-0.0 c.args.mode (c.loop-text.number + 1) c.loop-text.lines.items c.in-Some.text.now (parts_left c.loop-text.text-iterator)
     (parts_left c.next.new.self) (read_text c.args.mode c.args.bytes.now) c.in-Some.ensures.steps
-    (stopped c.in_err-read_one.field-0.0 c.read_one.new.lines.items _ (c.in_err-read_one.ensures.read (parts_left c.next.new.self) (TellsEnds-known c.last_ends-ends.result (c.loop-text.number + 1) (parts_left c.next.new.self) ends))) c.loop-text.invariant.same)
+    (stopped c.in_err-read_one.field-0.0 c.read_one.new.lines.items _ (c.in_err-read_one.ensures.read (parts_left c.next.new.self) (TellsEnds-known c.args.mode c.ends_for-ends.result (c.loop-text.number + 1) (parts_left c.next.new.self) ends))) c.loop-text.invariant.same)
 
 pub returns : goal.returns
 returns c = is_done c.args.mode (c.loop-text.number + 1) c.loop-text.lines.items (parts_left c.loop-text.text-iterator) (read_text c.args.mode c.args.bytes.now) c.in-None.ensures.steps.0 c.loop-text.invariant.same

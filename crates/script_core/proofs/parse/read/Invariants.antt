@@ -10,5 +10,5 @@ abbrev pub invariant-loop-text : goal.invariant-loop-text
 invariant-loop-text l = record {
   same : read_from l.mode (l.number + 1) l.lines.items (parts_left l.text-iterator) ≡ read_text l.mode l.bytes;
   count : l.number + length (parts_left l.text-iterator) ≡ length (lines_of l.bytes);
-  ends : KnowsEnds l.ends l.number (parts_left l.text-iterator);
+  ends : KnowsEnds l.mode l.ends l.number (parts_left l.text-iterator);
 }
