@@ -13,7 +13,7 @@ use Rattle.kv_model.specs.Operations.{Operation, operation_of}
 use Rattle.script_core.specs.declared.line.Act.{Act}
 use Rattle.script_core.specs.declared.line.Act.TheVariants.{Do, Cut}
 use Rattle.script_core.specs.declared.line.Line.{Line}
-use Rattle.session_core.specs.Power.{AreBehindCuts, IsOrdinary, Power, Steady, Armed, Lost, Shows, ShowsCuts, TellsNoCut, acts_of, after_call, after_cut, after_reply, armed_cuts, cuts_in, is_armed, is_write_fault, may_reply, stays_behind, write_faults_in}
+use Rattle.session_core.specs.Power.{AreBehindCuts, IsOrdinary, Power, Steady, Armed, Lost, Shows, ShowsCuts, TellsNoCut, acts_of, after_call, after_cut, after_reply, armed_cuts, cuts_in, is_armed, is_lost, is_write_fault, may_reply, stays_behind, write_faults_in}
 
 -- ---- one reply
 
@@ -140,6 +140,30 @@ few_faults power final (Do asked ∷ acts) [] shows = absurd shows
 few_faults power final (Do asked ∷ acts) (e ∷ entries) shows =
     one_called (one_if (is_write_fault e.reply)) (write_faults_in entries) (cuts_in acts) (armed_cuts (after_call power asked e.reply)) (armed_cuts power)
     (few_faults (after_call power asked e.reply) final acts entries shows.1) (call_takes power (operation_of asked) e.reply shows.0)
+
+-- power that is lost was lost in a write that failed
+cut_stays : (power : Power) → is_lost (after_cut power) ≡ is_lost power
+cut_stays Steady = refl
+cut_stays Armed = refl
+cut_stays Lost = refl
+
+unfailed_stays : (power : Power) (found : Option Operation) (reply : Reply) → is_write_fault reply ≡ false → is_lost power ≡ false
+    → is_lost (option_map_or (λ operation. after_reply power reply) found Steady) ≡ false
+unfailed_stays power None reply none runs = refl
+unfailed_stays power (Some operation) reply none runs = subst (λ (b : Bool). is_lost (if b then Lost else power) ≡ false) (sym none) runs
+
+counted : (fault : Bool) (faults : ℕ) → (fault ≡ false → 1 ≤ faults) → 1 ≤ one_if fault + faults
+counted true faults more = omega arith
+counted false faults more = omega (arith, more refl)
+
+pub lost_by_fault : (power final : Power) (acts : List Act) (entries : List Entry) → Shows power acts entries final → is_lost power ≡ false → is_lost final ≡ true
+    → 1 ≤ write_faults_in entries
+lost_by_fault power final [] [] shows runs lost = absurd (false≢true (sym runs ∙ sym (ap is_lost shows) ∙ lost))
+lost_by_fault power final [] (e ∷ entries) shows runs lost = absurd shows
+lost_by_fault power final (Cut side n pattern ∷ acts) entries shows runs lost = lost_by_fault (after_cut power) final acts entries shows (cut_stays power ∙ runs) lost
+lost_by_fault power final (Do asked ∷ acts) [] shows runs lost = absurd shows
+lost_by_fault power final (Do asked ∷ acts) (e ∷ entries) shows runs lost = counted (is_write_fault e.reply) (write_faults_in entries)
+    (λ none. lost_by_fault (after_call power asked e.reply) final acts entries shows.1 (unfailed_stays power (operation_of asked) e.reply none runs) lost)
 
 nothing_behind : (behind : Bool) (acts : List Act) → AreBehindCuts behind acts []
 nothing_behind behind [] = tt

@@ -1,5 +1,6 @@
 pub mod AreaLemmas
 pub mod CallLemmas
+pub mod ChanceLemmas
 pub mod CutLemmas
 pub mod GrowLemmas
 pub mod LineLemmas

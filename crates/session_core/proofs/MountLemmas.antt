@@ -6,7 +6,7 @@ use Rattle.std.specs.FinMap as map
 use Rattle.std.specs.Option.{ForSome}
 use Rattle.flash_core.specs.Sizes.{IsValid}
 use Rattle.flash_core.specs.State.{DeviceCall}
-use Rattle.flash_sim.specs.ChipState.{ChipState, device_of}
+use Rattle.flash_sim.specs.ChipState.{ChipState, device_of, is_steady}
 use Rattle.flash_sim.specs.Plan.{names_from}
 use Rattle.flash_sim.specs.Views.{view_of}
 use Rattle.kv_model.specs.Constants.{Constants}
@@ -176,6 +176,10 @@ module _ (chip : ChipState) (log : LogPart) (active : Option ActiveSet) where
   tells None = refl
   tells (Some noted) = refl
 
+  steady_at : (note : Option StoreState) → (state_at chip log active note).known.steady ≡ is_steady chip
+  steady_at None = refl
+  steady_at (Some noted) = refl
+
   told_map_at : (note : Option StoreState) → IsStore (view_at (view chip log active) active note) → IsLawful plain_rules (state_at chip log active note)
       → (m : FlaggedMap) → Mounts chip.geometry chip.image m → IsToldMap chip (state_at chip log active note) m
   told_map_at None is lawful m mounts = λ before told.
@@ -221,6 +225,12 @@ pub tells_state : (bits : ℕ) (store : Option Store) (chips : Option Chips) →
 tells_state bits (Some (Plain store)) chips =
     tells (view_of store.store.log.flash) (log_view device_in store.store.log).log store.store.active (noted_in store.store.stopped)
 tells_state bits None chips = refl
+
+-- what is told of its chip's reads
+pub tells_steady : (bits : ℕ) (store : Option Store) (chips : Option Chips) → (state_by bits store chips).known.steady ≡ is_steady (primary_by store chips)
+tells_steady bits (Some (Plain store)) chips =
+    steady_at (view_of store.store.log.flash) (log_view device_in store.store.log).log store.store.active (noted_in store.store.stopped)
+tells_steady bits None chips = refl
 
 pub told_map : (bits : ℕ) (store : Option Store) (chips : Option Chips) (m : FlaggedMap) → Mounts (primary_by store chips).geometry (primary_by store chips).image m
     → IsToldMap (primary_by store chips) (state_by bits store chips) m

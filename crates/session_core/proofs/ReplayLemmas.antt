@@ -1,8 +1,9 @@
 -- How a replay goes on by one line.
-use Rattle.std.proofs.Common.{◌≡◌, ◌≢◌, ◌⊎◌, ℕ, ◌+◌, ◌≤◌, ◌<◌, true, false, map, List, [], ◌∷◌, ◌++◌, length, refl, sym, ◌∙◌, ap, subst, inl, inr, append_assoc, arith}
-use Rattle.std.specs.Prelude.{Option, Some, None, Result, Ok, Err, drop, is_some, take}
+use Rattle.std.proofs.Common.{◌≡◌, ◌≢◌, ◌⊎◌, ℕ, ◌+◌, ◌≤◌, Bool, true, false, map, List, [], ◌∷◌, ◌++◌, length, refl, sym, ◌∙◌, ap, subst, inl, inr, append_assoc, arith}
+use Rattle.std.specs.Prelude.{Option, Some, None, Result, Ok, Err, is_some, take}
 use Rattle.std.proofs.lemmas.Grind.{flat_map-append}
-use Rattle.std.proofs.lemmas.List.{append-nil, length-append, length-map, length-take-le, map-append, take-append-drop}
+use Rattle.std.proofs.lemmas.List.{append-nil, length-append, length-map, map-append}
+use Rattle.std.proofs.Math.Seq.{take-append-add, take-append_seam}
 use mathlib.Core.Bool.{false≢true}
 use Rattle.base_core.specs.declared.no_memory.NoMemory.{NoMemory}
 use Rattle.flash_core.specs.declared.geometry.Geometry.{Geometry}
@@ -30,7 +31,7 @@ use Rattle.script_core.specs.declared.line.Act.{Act}
 use Rattle.script_core.specs.declared.line.Act.TheVariants.{Do, Cut}
 use Rattle.script_core.specs.declared.line.Line.{Line as ScriptLine}
 use Rattle.script_core.specs.declared.line.Side.{Side}
-use Rattle.script_core.specs.LineOrder.{call_of, calls_of}
+use Rattle.script_core.specs.LineOrder.{InOrder, call_of, calls_of}
 use Rattle.session_core.specs.declared.ended.Ended.{Ended}
 use Rattle.session_core.specs.declared.ended.Ended.TheVariants as ended
 use Rattle.session_core.specs.declared.session.Session.{Session}
@@ -38,13 +39,13 @@ use Rattle.session_core.specs.Backing.{session_rules}
 use Rattle.session_core.specs.Growing.{IsTold, LogGoesOn, Told}
 use Rattle.session_core.specs.Laws.{session_is_lawful}
 use Rattle.session_core.specs.Mounting.{LeadsOn}
-use Rattle.session_core.specs.Power.{HasPower, Power, Steady, Shows, ShowsCuts, acts_of, after_call, after_cut}
-use Rattle.session_core.specs.Replaying.{HasReplayed, LogsAct, Replays, RunsLine, ShowsAct, StillTells, seen_in}
+use Rattle.session_core.specs.Power.{HasPower, LeavesPower, Power, Steady, Shows, ShowsCuts, acts_of, after_call, after_cut, write_faults_in}
+use Rattle.session_core.specs.Replaying.{HasReplayed, KeepsPower, LogsAct, Replays, RunsLine, ShowsAct, StillTells, seen_in}
 use Rattle.session_core.specs.Settling.{IsSessionChance, IsSettled, IsUnmounted}
 use Rattle.session_core.specs.Telling.{IsLogIn}
 use Rattle.session_core.specs.Views.{primary_in, state_in}
 use Rattle.session_core.proofs.AreaLemmas.{same_areas}
-use Rattle.session_core.proofs.CutLemmas.{shows_cuts}
+use Rattle.session_core.proofs.CutLemmas.{lost_by_fault, shows_cuts}
 use Rattle.session_core.proofs.LogLemmas.{log_called, log_grows, log_joined, log_mounted, log_stood, mount_leaves, one_run}
 use Rattle.session_core.proofs.MountLemmas.{tells_state, told_log, valid_by}
 use Rattle.session_core.proofs.PowerLemmas.{arm_shows, call_shows, shows_joined}
@@ -195,6 +196,7 @@ module _ (old new : Session) (entries : List Entry) where
     subst (λ (s : Session). IsSessionChance s (Some (side, place))) (sym same) chance,
     refl,
     refl,
+    (λ power has. subst (λ (s : Session). HasPower (state_in s) power) (sym same) has),
   )
 
   pub mount_memory : (line : ScriptLine) → (new ≡ old) ⊎ IsUnmounted old new → RunsLine old new entries entries line ended.Memory
@@ -265,75 +267,95 @@ shown_whole first mid lines entries shows power has =
     subst (λ (l : List ScriptLine). ShowsCuts power l entries) (append-nil lines) (shows_cuts power all.0 lines [] entries all.1)
 
 -- what was shown of the first lines is shown of all
-shown_first : (first mid : Session) (lines : List ScriptLine) (at : ℕ) (entries : List Entry) → ShowsSoFar first mid (take at lines) entries → (power : Power) → HasPower (state_in first) power
-    → ShowsCuts power lines entries
-shown_first first mid lines at entries shows power has =
+shown_first : (first mid : Session) (before rest : List ScriptLine) (entries : List Entry) → ShowsSoFar first mid before entries → (power : Power) → HasPower (state_in first) power
+    → ShowsCuts power (before ++ rest) entries
+shown_first first mid before rest entries shows power has = let all = shows power has in shows_cuts power all.0 before rest entries all.1
+
+-- the power that is left
+power_left : (first mid last : Session) (lines : List ScriptLine) (entries later : List Entry) → ShowsSoFar first mid lines entries → KeepsPower mid last → later ≡ entries
+    → (power : Power) → HasPower (state_in first) power → LeavesPower (state_in last) power later
+power_left first mid last lines entries later shows keeps is power has =
     let all = shows power has in
-    subst (λ (l : List ScriptLine). ShowsCuts power l entries) (take-append-drop at lines) (shows_cuts power all.0 (take at lines) (drop at lines) entries all.1)
+    record {
+      after = all.0;
+      has = keeps all.0 all.2;
+      failed = λ runs lost. subst (λ (l : List Entry). 1 ≤ write_faults_in l) (sym is) (lost_by_fault power all.0 (acts_of lines) entries all.1 runs lost);
+    }
 
-module _ (first mid last : Session) (lines : List ScriptLine) (at : ℕ) (line : ScriptLine) (within : at < length lines) (next_lines : take (at + 1) lines ≡ take at lines ++ line ∷ [])
-    (entries later : List Entry) (still : StillTells first mid)
-    (ran : HasReplayed (seen_in first []) (seen_in mid entries) (calls_of (take at lines))) where
+-- the line behind some
+take_one : (before rest : List ScriptLine) (line : ScriptLine) → take (length before + 1) (before ++ line ∷ rest) ≡ before ++ line ∷ []
+take_one before rest line = take-append-add before (line ∷ rest) 1
+
+abbrev is_whole : Ended → Bool
+is_whole ended.Whole = true
+is_whole e = false
+
+module _ (first mid last : Session) (before : List ScriptLine) (line : ScriptLine) (entries later : List Entry) (still : StillTells first mid)
+    (ran : HasReplayed (seen_in first []) (seen_in mid entries) (calls_of before)) where
   -- one line more
-  more_calls : calls_of (take (at + 1) lines) ≡ calls_of (take at lines) ++ call_of line.who line.act
-  more_calls = ap calls_of next_lines ∙ flat_map-append (λ (l : ScriptLine). call_of l.who l.act) (take at lines) (line ∷ [])
-      ∙ ap (λ (l : List Line). calls_of (take at lines) ++ l) (append-nil (call_of line.who line.act))
+  more_calls : calls_of (before ++ line ∷ []) ≡ calls_of before ++ call_of line.who line.act
+  more_calls = flat_map-append (λ (l : ScriptLine). call_of l.who l.act) before (line ∷ [])
+      ∙ ap (λ (l : List Line). calls_of before ++ l) (append-nil (call_of line.who line.act))
 
-  pub one_line : HasReplayed (seen_in mid entries) (seen_in last later) (call_of line.who line.act) → HasReplayed (seen_in first []) (seen_in last later) (calls_of (take (at + 1) lines))
+  pub one_line : HasReplayed (seen_in mid entries) (seen_in last later) (call_of line.who line.act) → HasReplayed (seen_in first []) (seen_in last later) (calls_of (before ++ line ∷ []))
   one_line then_ran = subst (HasReplayed (seen_in first []) (seen_in last later)) (sym more_calls)
-      (joined (seen_in first []) (seen_in mid entries) (seen_in last later) (calls_of (take at lines)) (call_of line.who line.act) still ran then_ran)
+      (joined (seen_in first []) (seen_in mid entries) (seen_in last later) (calls_of before) (call_of line.who line.act) still ran then_ran)
 
-  no_line : HasReplayed (seen_in mid entries) (seen_in last later) [] → HasReplayed (seen_in first []) (seen_in last later) (calls_of (take at lines))
-  no_line then_ran = subst (HasReplayed (seen_in first []) (seen_in last later)) (append-nil (calls_of (take at lines)))
-      (joined (seen_in first []) (seen_in mid entries) (seen_in last later) (calls_of (take at lines)) [] still ran then_ran)
+  no_line : HasReplayed (seen_in mid entries) (seen_in last later) [] → HasReplayed (seen_in first []) (seen_in last later) (calls_of before)
+  no_line then_ran = subst (HasReplayed (seen_in first []) (seen_in last later)) (append-nil (calls_of before))
+      (joined (seen_in first []) (seen_in mid entries) (seen_in last later) (calls_of before) [] still ran then_ran)
 
-  pub more_shown : ShowsAct mid last entries later line.act → ShowsSoFar first mid (take at lines) entries → ShowsSoFar first last (take (at + 1) lines) later
+  pub more_shown : ShowsAct mid last entries later line.act → ShowsSoFar first mid before entries → ShowsSoFar first last (before ++ line ∷ []) later
   more_shown shows so_far power has =
       let front = so_far power has in
       let next = shows front.0 front.2 in
-      let acts : acts_of (take (at + 1) lines) ≡ acts_of (take at lines) ++ line.act ∷ [] =
-      ap acts_of next_lines ∙ map-append (λ (l : ScriptLine). l.act) (take at lines) (line ∷ []) in
-      let joined_shows = shows_joined power front.0 next.1 (acts_of (take at lines)) (line.act ∷ []) entries next.0 front.1 next.3 in
-      let here : Shows power (acts_of (take (at + 1) lines)) (entries ++ next.0) next.1 =
+      let acts : acts_of (before ++ line ∷ []) ≡ acts_of before ++ line.act ∷ [] = map-append (λ (l : ScriptLine). l.act) before (line ∷ []) in
+      let joined_shows = shows_joined power front.0 next.1 (acts_of before) (line.act ∷ []) entries next.0 front.1 next.3 in
+      let here : Shows power (acts_of (before ++ line ∷ [])) (entries ++ next.0) next.1 =
       subst (λ (a : List Act). Shows power a (entries ++ next.0) next.1) (sym acts) joined_shows in
-      (next.1, subst (λ (l : List Entry). Shows power (acts_of (take (at + 1) lines)) l next.1) (sym next.2) here, next.4)
+      (next.1, subst (λ (l : List Entry). Shows power (acts_of (before ++ line ∷ [])) l next.1) (sym next.2) here, next.4)
 
   pub more_logged : LogsAct mid last entries later → LogGoesOn (state_in first) (state_in mid) entries → LogGoesOn (state_in first) (state_in last) later
   more_logged logs so_far = subst (LogGoesOn (state_in first) (state_in last)) (sym logs.1)
       (log_joined (state_in first) (state_in mid) (state_in last) entries logs.0 ran.constants so_far logs.2)
 
   -- the line at which the replay ends
-  pub ends_at : (journal : JournalState) → journal.entries ≡ later → ShowsSoFar first mid (take at lines) entries → (e : Ended) → e ≢ ended.Whole → RunsLine mid last entries later line e
-      → Replays first last lines (record { journal = journal; ended = e })
-  ends_at journal is shows ended.Whole not_whole runs = absurd (not_whole refl)
-  ends_at journal is shows (ended.Chance side place) not_whole runs =
-      let all : HasReplayed (seen_in first []) (seen_in last journal.entries) (calls_of (take at lines)) =
-      subst (λ (l : List Entry). HasReplayed (seen_in first []) (seen_in last l) (calls_of (take at lines))) (sym is) (no_line runs.0) in
+  pub ends_at : (rest : List ScriptLine) (journal : JournalState) → journal.entries ≡ later → ShowsSoFar first mid before entries → (e : Ended) → e ≢ ended.Whole
+      → RunsLine mid last entries later line e → Replays first last (before ++ line ∷ rest) (record { journal = journal; ended = e })
+  ends_at rest journal is shows ended.Whole not_whole runs = absurd (not_whole refl)
+  ends_at rest journal is shows (ended.Chance side place) not_whole runs =
+      let all : HasReplayed (seen_in first []) (seen_in last journal.entries) (calls_of before) =
+      subst (λ (l : List Entry). HasReplayed (seen_in first []) (seen_in last l) (calls_of before)) (sym is) (no_line runs.0) in
       record {
         constants = all.constants;
         areas = same_areas first last all.constants;
-        legal = legal (state_in first) (state_in last) journal.entries (calls_of (take at lines)) all;
+        legal = legal (state_in first) (state_in last) journal.entries (calls_of before) all;
         in_order = (
-          take at lines,
-          record { line = line; is_mount = runs.3; behind = subst (λ (n : ℕ). take (n + 1) lines ≡ take at lines ++ line ∷ []) (sym (length-take-le at lines (omega (arith, within)))) next_lines },
-          in_order (state_in first) (state_in last) journal.entries (calls_of (take at lines)) all,
+          before,
+          record { line = line; is_mount = runs.3; behind = take_one before rest line },
+          in_order (state_in first) (state_in last) journal.entries (calls_of before) all,
         );
         chance = runs.2;
         tells = λ told. runs.1 (still told);
-        cuts = λ power has. subst (ShowsCuts power lines) (sym (is ∙ runs.4)) (shown_first first mid lines at entries shows power has);
+        cuts = λ power has. subst (ShowsCuts power (before ++ line ∷ rest)) (sym (is ∙ runs.4)) (shown_first first mid before (line ∷ rest) entries shows power has);
+        power = power_left first mid last before entries journal.entries shows runs.5 (is ∙ runs.4);
         grows = λ whole. absurd (not_whole whole);
       }
-  ends_at journal is shows ended.Memory not_whole runs =
-      let all : HasReplayed (seen_in first []) (seen_in last journal.entries) (calls_of (take at lines)) =
-      subst (λ (l : List Entry). HasReplayed (seen_in first []) (seen_in last l) (calls_of (take at lines))) (sym is) (no_line runs.0) in
+  ends_at rest journal is shows ended.Memory not_whole runs =
+      let all : HasReplayed (seen_in first []) (seen_in last journal.entries) (calls_of before) =
+      subst (λ (l : List Entry). HasReplayed (seen_in first []) (seen_in last l) (calls_of before)) (sym is) (no_line runs.0) in
       record {
         constants = all.constants;
         areas = same_areas first last all.constants;
-        legal = legal (state_in first) (state_in last) journal.entries (calls_of (take at lines)) all;
-        in_order = (at, in_order (state_in first) (state_in last) journal.entries (calls_of (take at lines)) all);
+        legal = legal (state_in first) (state_in last) journal.entries (calls_of before) all;
+        in_order = (
+          length before,
+          subst (InOrder journal.entries) (sym (take-append_seam before (line ∷ rest))) (in_order (state_in first) (state_in last) journal.entries (calls_of before) all),
+        );
         chance = tt;
         tells = tt;
-        cuts = λ power has. subst (ShowsCuts power lines) (sym (is ∙ runs.1)) (shown_first first mid lines at entries shows power has);
+        cuts = λ power has. subst (ShowsCuts power (before ++ line ∷ rest)) (sym (is ∙ runs.1)) (shown_first first mid before (line ∷ rest) entries shows power has);
+        power = tt;
         grows = λ whole. absurd (not_whole whole);
       }
 
@@ -348,6 +370,7 @@ ends_whole first last lines journal all still shows logs = record {
   chance = tt;
   tells = still;
   cuts = shown_whole first last lines journal.entries shows;
+  power = power_left first last last lines journal.entries journal.entries shows (λ power has. has) refl;
   grows = λ whole power uncut.
       let shown = shown_whole first last lines journal.entries shows Steady power in
       log_grows (state_in first) (state_in last) journal.entries power shown.ordinary (shown.uncut refl uncut) logs
@@ -362,6 +385,22 @@ none_logged first entries none = subst (LogGoesOn (state_in first) (state_in fir
 
 pub nothing_yet : (first : Session) (entries : List Entry) → entries ≡ [] → HasReplayed (seen_in first []) (seen_in first entries) []
 nothing_yet first entries none = subst (λ (l : List Entry). HasReplayed (seen_in first []) (seen_in first l) []) (sym none) (stood (state_in first) (state_in first) [] refl refl)
+
+-- there was no memory to run any
+pub none_run : (first : Session) (lines : List ScriptLine) (journal : JournalState) → journal.entries ≡ [] → Replays first first lines (record { journal = journal; ended = ended.Memory })
+none_run first lines journal none =
+    let all : HasReplayed (seen_in first []) (seen_in first journal.entries) [] = nothing_yet first journal.entries none in
+    record {
+      constants = refl;
+      areas = same_areas first first refl;
+      legal = legal (state_in first) (state_in first) journal.entries [] all;
+      in_order = (0, in_order (state_in first) (state_in first) journal.entries [] all);
+      chance = tt;
+      tells = tt;
+      cuts = shown_first first first [] lines journal.entries (none_shown first journal.entries none);
+      power = tt;
+      grows = λ whole. absurd (false≢true (ap is_whole whole));
+    }
 
 at_most_one : (who : ℕ) (act : Act) → length (call_of who act) ≤ 1
 at_most_one who (Do call) = omega arith

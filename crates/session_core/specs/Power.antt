@@ -125,3 +125,9 @@ pub record ShowsCuts (power : Power) (lines : List Line) (entries : List Entry) 
   pub uncut : power ≡ Steady → cuts_in (acts_of lines) ≡ 0 → All (λ (entry : Entry). TellsNoCut entry.reply) entries
   pub few : write_faults_in entries ≤ cuts_in (acts_of lines) + armed_cuts power
   pub behind : AreBehindCuts (is_armed power) (acts_of lines) entries
+
+-- The power that a run of these replies leaves, from this power on: where it was lost, a write failed.
+pub record LeavesPower (s : KvState) (power : Power) (entries : List Entry) : Type 0 where
+  pub after : Power
+  pub has : HasPower s after
+  pub failed : is_lost power ≡ false → is_lost after ≡ true → 1 ≤ write_faults_in entries

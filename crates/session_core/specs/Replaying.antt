@@ -17,7 +17,7 @@ use Rattle.session_core.specs.declared.session.Session.{Session}
 use Rattle.session_core.specs.Backing.{session_rules}
 use Rattle.session_core.specs.Chips.{HasSameAreas}
 use Rattle.session_core.specs.Growing.{GrowsBy, LogGoesOn}
-use Rattle.session_core.specs.Power.{HasPower, Power, Steady, Shows, ShowsCuts, acts_of, cuts_in}
+use Rattle.session_core.specs.Power.{HasPower, LeavesPower, Power, Steady, Shows, ShowsCuts, acts_of, cuts_in}
 use Rattle.session_core.specs.Settling.{IsSessionChance}
 use Rattle.session_core.specs.Views.{primary_in, state_in}
 
@@ -39,6 +39,10 @@ seen_in session entries = seen (state_in session) entries
 abbrev pub StillTells : Session → Session → Type 0
 StillTells old new = is_some (state_in old).known.state ≡ true → is_some (state_in new).known.state ≡ true
 
+-- what power there is stays
+abbrev pub KeepsPower : Session → Session → Type 0
+KeepsPower old new = (power : Power) → HasPower (state_in old) power → HasPower (state_in new) power
+
 -- The replies of an act show what becomes of the power.
 abbrev pub ShowsAct : Session → Session → List Entry → List Entry → Act → Type 0
 ShowsAct old new entries later act = (power : Power) → HasPower (state_in old) power
@@ -56,7 +60,7 @@ RunsLine old new entries later line ended.Whole =
     × LogsAct old new entries later
 RunsLine old new entries later line (ended.Chance side place) =
     HasReplayed (seen_in old entries) (seen_in new later) [] × StillTells old new × IsSessionChance new (Some (side, place))
-    × (line.act ≡ Do Mount) × (later ≡ entries)
+    × (line.act ≡ Do Mount) × (later ≡ entries) × KeepsPower old new
 RunsLine old new entries later line ended.Memory =
     HasReplayed (seen_in old entries) (seen_in new later) [] × (later ≡ entries)
 
@@ -82,6 +86,11 @@ abbrev pub TellsAt : Ended → Session → Session → Type 0
 TellsAt ended.Memory old new = Unit {0}
 TellsAt ended old new = StillTells old new
 
+-- a replay that ended for no want of memory leaves a session that has power, or lost it in a write that failed
+abbrev pub LeavesAt : Ended → Session → Session → List Entry → Type 0
+LeavesAt ended.Memory old new entries = Unit {0}
+LeavesAt ended old new entries = (power : Power) → HasPower (state_in old) power → LeavesPower (state_in new) power entries
+
 -- What a replay of these lines gives.
 pub record Replays (old new : Session) (lines : List ScriptLine) (outcome : Outcome) : Type 0 where
   pub constants : (state_in new).known.constants ≡ (state_in old).known.constants
@@ -92,6 +101,7 @@ pub record Replays (old new : Session) (lines : List ScriptLine) (outcome : Outc
   pub chance : IsStoppedAt outcome.ended new
   pub tells : TellsAt outcome.ended old new
   pub cuts : (power : Power) → HasPower (state_in old) power → ShowsCuts power lines outcome.journal.entries
+  pub power : LeavesAt outcome.ended old new outcome.journal.entries
   -- of a session with power, whose power is not cut
   pub grows : outcome.ended ≡ ended.Whole → HasPower (state_in old) Steady → cuts_in (acts_of lines) ≡ 0
       → GrowsBy (state_in old) (primary_in new) (state_in new) outcome.journal.entries

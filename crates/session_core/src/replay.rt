@@ -1,6 +1,6 @@
 // The lines of a script, run on a session in their order.
 ghost use Rattle.std.specs.Prelude.{◌≡◌, ◌≢◌, ◌<◌, false, true, All, IfOk, OnOk, OnErr, length};
-ghost use Rattle.script_core.specs.Grammar.{CutsNoRollback, IsLine};
+ghost use Rattle.script_core.specs.Grammar.{AreLines, CutsNoRollback, IsLine};
 ghost use Rattle.script_core.specs.declared.line.Act.TheVariants.{Do};
 ghost use Rattle.script_core.specs.declared.line.Line.{Line};
 ghost use Rattle.session_core.specs.declared.ended.Ended.TheVariants as ended;
@@ -24,6 +24,34 @@ fn copy_of(call: &Call) -> Result<Call, NoMemory>
     ensures { IfOk result (λ copy. copy ≡ call.now) }
 {
     Ok(call.clone()?)
+}
+
+// A copy of a line.
+fn copy_of_line(line: &Line) -> Result<Line, NoMemory>
+    ensures { IfOk result (λ copy. copy ≡ line.now) }
+{
+    let act = match &line.act {
+        Act::Do { call } => Act::Do {
+            call: copy_of(call)?,
+        },
+        Act::Cut { side, n, pattern } => Act::Cut {
+            side: *side,
+            n: *n,
+            pattern: *pattern,
+        },
+    };
+    Ok(Line { who: line.who, act })
+}
+
+// Copies of these lines, in their order.
+fn copies_of(alloc: Global, lines: &[Line]) -> Result<Vec<Line>, NoMemory>
+    ensures { IfOk result (λ copies. copies.items ≡ lines.now) }
+{
+    let mut copies = Vec::new(alloc);
+    for line in lines {
+        copies.push(copy_of_line(line)?)?;
+    }
+    Ok(copies)
 }
 
 fn is_mount(call: &Call) -> bool
@@ -53,26 +81,25 @@ impl Session {
         }
     }
 
-    // Makes a call of a client, which is no mount, and notes it with its reply.
+    // Makes a call of a client, which is no mount, and moves it into the journal with its reply.
     fn note_call(
         &mut self,
         alloc: Global,
         journal: &mut Journal,
         who: u8,
-        call: &Call,
+        call: Call,
     ) -> Result<(), NoMemory>
         requires numbers { length journal.old.entries < 4294967295 }
-        requires no_mount { call.now ≢ Call.Mount }
+        requires no_mount { call ≢ Call.Mount }
         ensures done { OnOk result (RunsLine self.old self.new journal.old.entries
-            journal.new.entries (record { who = who; act = Do call.now }) ended.Whole) }
+            journal.new.entries (record { who = who; act = Do call }) ended.Whole) }
         ensures none { OnErr result (RunsLine self.old self.new journal.old.entries
-            journal.new.entries (record { who = who; act = Do call.now }) ended.Memory) }
+            journal.new.entries (record { who = who; act = Do call }) ended.Memory) }
     {
         journal.reserve()?;
-        let noted = copy_of(call)?;
-        match perform(alloc, self, who, call) {
+        match perform(alloc, self, who, &call) {
             Ok(reply) => {
-                journal.append(who, noted, reply);
+                journal.append(who, call, reply);
                 Ok(())
             }
             Err(none) => Err(none),
@@ -80,11 +107,11 @@ impl Session {
     }
 
     // The same, as a line of a script.
-    fn run_call(&mut self, alloc: Global, journal: &mut Journal, who: u8, call: &Call) -> Ended
+    fn run_call(&mut self, alloc: Global, journal: &mut Journal, who: u8, call: Call) -> Ended
         requires numbers { length journal.old.entries < 4294967295 }
-        requires no_mount { call.now ≢ Call.Mount }
+        requires no_mount { call ≢ Call.Mount }
         ensures { RunsLine self.old self.new journal.old.entries journal.new.entries
-            (record { who = who; act = Do call.now }) result }
+            (record { who = who; act = Do call }) result }
     {
         match self.note_call(alloc, journal, who, call) {
             Ok(()) => Ended::Whole,
@@ -92,41 +119,43 @@ impl Session {
         }
     }
 
-    // Runs one line.
-    fn run_line(&mut self, alloc: Global, journal: &mut Journal, line: &Line) -> Ended
+    // Runs one line, whose call is moved into the journal.
+    fn run_line(&mut self, alloc: Global, journal: &mut Journal, line: Line) -> Ended
         requires numbers { length journal.old.entries < 4294967295 }
-        requires line { IsLine line.now }
-        requires primary { CutsNoRollback line.now.act }
-        ensures { RunsLine self.old self.new journal.old.entries journal.new.entries line.now
-            result }
+        requires line { IsLine line }
+        requires primary { CutsNoRollback line.act }
+        ensures { RunsLine self.old self.new journal.old.entries journal.new.entries line result }
     {
-        match &line.act {
-            Act::Cut { side, n, pattern } => match self.arm(alloc, *side, *n, *pattern) {
+        let Line { who, act } = line;
+        match act {
+            Act::Cut { side, n, pattern } => match self.arm(alloc, side, n, pattern) {
                 Ok(()) => Ended::Whole,
                 Err(NoMemory) => Ended::Memory,
             },
             Act::Do { call } => {
-                if is_mount(call) {
+                if is_mount(&call) {
                     self.run_mount(alloc, journal)
                 } else {
-                    self.run_call(alloc, journal, line.who, call)
+                    self.run_call(alloc, journal, who, call)
                 }
             }
         }
     }
 
-    /// Runs the lines in their order, and notes each call with its reply. A line `0 mount` settles
-    /// the session, on a store that runs too, and is noted as a call of client 0 with the reply
-    /// `Done`; a line `0 cut` arms a chip and is not noted. Where a record is there by chance at a
-    /// mount the replay ends there, and so it does for want of memory. A plain session is given no
-    /// cut of the rollback chip. Where no cut is armed, a log that wants no collection grows by the
-    /// records of these calls and stays in its area.
-    pub fn replay(&mut self, alloc: Global, script: &Script) -> Outcome
-        requires { All (λ (line : Line). CutsNoRollback line.act) script.now }
-        ensures { Replays self.old self.new script.now result }
+    /// Runs the lines of a script in their order, and notes each call with its reply: the call is
+    /// moved into the journal, not copied. A line `0 mount` settles the session, on a store that
+    /// runs too, and is noted as a call of client 0 with the reply `Done`; a line `0 cut` arms a
+    /// chip and is not noted. Where a record is there by chance at a mount the replay ends there,
+    /// and so it does for want of memory. A plain session is given no cut of the rollback chip.
+    /// Where no cut is armed, a log that wants no collection grows by the records of these calls
+    /// and stays in its area.
+    pub fn replay_lines(&mut self, alloc: Global, lines: Vec<Line>) -> Outcome
+        requires lines { AreLines lines.items }
+        requires primary { All (λ (line : Line). CutsNoRollback line.act) lines.items }
+        ensures { Replays self.old self.new lines.items result }
     {
         let mut journal = Journal::new(alloc);
-        for line in script.lines() {
+        for line in lines {
             let ended = self.run_line(alloc, &mut journal, line);
             if ended != Ended::Whole {
                 return Outcome { journal, ended };
@@ -135,6 +164,20 @@ impl Session {
         Outcome {
             journal,
             ended: Ended::Whole,
+        }
+    }
+
+    /// The same for a script that is kept, of whose lines it makes copies.
+    pub fn replay(&mut self, alloc: Global, script: &Script) -> Outcome
+        requires { All (λ (line : Line). CutsNoRollback line.act) script.now }
+        ensures { Replays self.old self.new script.now result }
+    {
+        match copies_of(alloc, script.lines()) {
+            Ok(lines) => self.replay_lines(alloc, lines),
+            Err(NoMemory) => Outcome {
+                journal: Journal::new(alloc),
+                ended: Ended::Memory,
+            },
         }
     }
 }

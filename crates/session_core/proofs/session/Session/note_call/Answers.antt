@@ -1,5 +1,4 @@
 use Rattle.std.proofs.Common.{◌≡◌, ◌∷◌, [], ◌++◌, List, ◌∙◌, ap}
-use Rattle.kv_model.specs.declared.call.Call.{Call}
 use Rattle.kv_model.specs.declared.call.Entry.{Entry}
 use Rattle.journal_core.specs.JournalState.{next_entry}
 use Rattle.script_core.specs.declared.line.Act.TheVariants.{Do}
@@ -13,11 +12,10 @@ returns-in-Ok-clause-done c =
     let new = c.perform.new.store in
     let entries = c.args.journal.now.entries in
     let who = c.args.who in
-    let asked = c.args.call.now in
+    let asked = c.args.call in
     let reply = c.in-Ok.reply in
     let noted : c.append.new.self.entries ≡ entries ++ next_entry entries who asked reply ∷ [] = c.append.ensures
-    ∙ ap (λ (l : List Entry). l ++ next_entry l who c.in_ok-noted.noted reply ∷ []) c.reserve.ensures.entries
-    ∙ ap (λ (call : Call). entries ++ next_entry entries who call reply ∷ []) c.in_ok-noted.ensures in
+    ∙ ap (λ (l : List Entry). l ++ next_entry l who asked reply ∷ []) c.reserve.ensures.entries in
     with_entries old new entries (entries ++ next_entry entries who asked reply ∷ []) c.append.new.self.entries (record { who = who; act = Do asked }) ended.Whole noted
     (call_done old new entries who asked reply c.in-Ok.ensures.memory c.in-Ok.ensures.performs)
 
@@ -26,5 +24,5 @@ returns-in-Err-clause-none c =
     let old = c.args.self.now in
     let new = c.perform.new.store in
     let entries = c.args.journal.now.entries in
-    with_entries old new entries entries c.reserve.new.self.entries (record { who = c.args.who; act = Do c.args.call.now }) ended.Memory c.reserve.ensures.entries
-    (call_memory old new entries c.args.who c.args.call.now c.in-Err.none c.in-Err.ensures.performs)
+    with_entries old new entries entries c.reserve.new.self.entries (record { who = c.args.who; act = Do c.args.call }) ended.Memory c.reserve.ensures.entries
+    (call_memory old new entries c.args.who c.args.call c.in-Err.none c.in-Err.ensures.performs)
