@@ -1,20 +1,19 @@
 -- How a part of the work ended, as the whole saw it: the part began with a count that may have risen, and told what the whole did.
-use Rattle.std.proofs.Common.{◌≡◌, ℕ, ◌+◌, ◌≤◌, List, length, take, refl, sym, ◌∙◌, ap, subst, inl, inr, arith}
-use Rattle.std.specs.Prelude.{Option, IfSome}
+use Rattle.std.proofs.Common.{◌≡◌, ℕ, ◌+◌, ◌≤◌, List, length, take, sym, ◌∙◌, ap, subst, inl, inr, arith}
+use Rattle.std.specs.Prelude.{Option}
 use Rattle.std.specs.Option.{option_map}
 use Rattle.base_core.specs.Counts.{Rose}
 use Rattle.base_core.proofs.CountLemmas.{Rose-since}
 use Rattle.flash_core.specs.Sizes.{size_of}
 use Rattle.kv_host.specs.Contents.{HostContents, with_file, with_printed}
 use Rattle.kv_model.specs.declared.call.Entry.{Entry}
-use Rattle.kv_cli.specs.declared.refusal.Refusal.{Refusal}
 use Rattle.kv_cli.specs.declared.run.RunEnd.{RunEnd}
 use Rattle.kv_cli.specs.declared.run.RunEnd.TheVariants as run
 use Rattle.kv_cli.specs.declared.stop.Stop.{Stop}
 use Rattle.kv_cli.specs.declared.stop.Stop.TheVariants as stop
 use Rattle.kv_cli.specs.Asked.{Asked}
 use Rattle.kv_cli.specs.Outcomes.{Around, HasEndedFor, IsFinished, IsNothing, IsPrinted, IsRefused, Left, StopsFor}
-use Rattle.kv_cli.specs.Refusals.{IsCause, line_of, status_of}
+use Rattle.kv_cli.specs.Refusals.{line_of, status_of}
 use Rattle.kv_cli.specs.Replays.{text_by}
 use Rattle.kv_cli.specs.Runs.{EndsRun, IsMade, printed_by, size_in}
 use Rattle.kv_cli.proofs.Causes.{stops_until}

@@ -1,21 +1,20 @@
 -- How the work can end, and that of its ends one alone fits the words and the files.
-use Rattle.std.proofs.Common.{◌≡◌, ◌≢◌, ℕ, ◌⊎◌, inl, inr, List, [], length, refl, sym, subst, ap, ◌∙◌, arith}
+use Rattle.std.proofs.Common.{◌≡◌, ◌≢◌, ℕ, ◌≤◌, ◌⊎◌, inl, inr, List, [], length, refl, sym, subst, ap, ◌∙◌, arith}
 use Rattle.std.specs.Prelude.{Option, Some, None, IfSome}
-use Rattle.flash_core.specs.Sizes.{size_of}
-use Rattle.kv_host.specs.Contents.{HostContents, file_at, with_file, with_printed}
+use Rattle.kv_host.specs.Contents.{HostContents, file_at, with_printed}
 use Rattle.kv_model.specs.declared.call.Entry.{Entry}
 use Rattle.script_core.specs.declared.line.Line.{Line}
 use Rattle.script_core.specs.Grammar.{IsScript}
-use Rattle.script_core.proofs.Texts.{read_text-script, read_text-bad, read_text-full}
+use Rattle.script_core.proofs.Texts.{one_script, read_text-script, read_text-bad, read_text-full}
 use Rattle.kv_cli.specs.declared.refusal.Refusal.{Refusal}
 use Rattle.kv_cli.specs.declared.refusal.Refusal.TheVariants as refusal
 use Rattle.kv_cli.specs.declared.stop.Stop.{Stop}
 use Rattle.kv_cli.specs.declared.stop.Stop.TheVariants as stop
 use Rattle.kv_cli.specs.Asked.{Asked, Asks, AsksNothing}
 use Rattle.kv_cli.specs.Inputs.{GivesReplay, HasImage, HasInputs, HasScript, IsBadLine, IsReadable, image_limit, plain_replay, script_limit}
-use Rattle.kv_cli.specs.Outcomes.{Around, GivesLine, HasEnded, HasEndedFor, IsByChance, IsCutShort, IsDone, IsFinished, IsNothing, IsPrinted, IsRefused, IsReplayed, IsReplayedUnlessHindered, IsStopped, IsUnlessHindered, Left, PrintsLine, Replays, StopsByChance, StopsFor, chance_text, ends_with}
+use Rattle.kv_cli.specs.Outcomes.{Around, GivesLine, HasEnded, IsByChance, IsCutShort, IsDone, IsFinished, IsNothing, IsPrinted, IsRefused, IsReplayed, IsReplayedUnlessHindered, IsStopped, IsUnlessHindered, Left, PrintsLine, Replays, StopsByChance, StopsFor, chance_text, ends_with}
 use Rattle.kv_cli.specs.Refusals.{Gives, HasBadLine, HasSomeScript, IsCause, IsRead, LacksFile, LacksImage, LacksScript, line_of, limit_of, name_of, status_of, words_line}
-use Rattle.kv_cli.specs.Replays.{text_by}
+use Rattle.kv_cli.specs.Replays.{cuts_of, text_by}
 use Rattle.kv_cli.proofs.AskedLemmas.{one_asked}
 
 -- ---- the causes exclude one another
@@ -34,6 +33,12 @@ one_text a b found h k = cc
 -- a file is read as one list of bytes
 one_file : (limit : ℕ) (name : List ℕ) (contents : HostContents) (a b : List ℕ) → IsReadable limit name contents a → IsReadable limit name contents b → a ≡ b
 one_file limit name contents a b h k = one_text a b (file_at name contents) h.there k.there
+
+-- and a text as one list of lines
+one_list : (name : List ℕ) (contents : HostContents) (a b : List Line) → HasScript name contents a → HasScript name contents b → a ≡ b
+one_list name contents a b h k =
+    let same = one_file script_limit name contents h.text k.text h.readable k.readable in
+    one_script plain_replay k.text a b (subst (λ (text : List ℕ). IsScript plain_replay text a) same h.script) k.script
 
 no_script : (asked : Asked) (contents : HostContents) (number : ℕ) → HasBadLine asked contents number → HasSomeScript asked contents → ⊥
 no_script asked contents number bad (lines, script) =
@@ -293,20 +298,28 @@ module _ (words : List (List ℕ)) (contents : HostContents) (left : Option Host
 
   -- ---- exactness
 
+  -- a script with a cut, or a cut of the words
+  abbrev HasCut : Asked → Type 0
+  HasCut asked = (lines : List Line) × HasScript asked.names.script contents lines × (1 ≤ cuts_of asked lines)
+
   -- the status of an end that was not hindered, with its cause
   abbrev HasCause : Asked → Type 0
-  HasCause asked = (((end.status ≡ 0) ⊎ (end.status ≡ 5)) × IsWhole asked contents) ⊎ ((line : List ℕ) × Of asked contents line end.status)
+  HasCause asked = (((end.status ≡ 0) ⊎ ((end.status ≡ 5) × HasCut asked)) × IsWhole asked contents) ⊎ ((line : List ℕ) × Of asked contents line end.status)
 
   whole_of : (asked : Asked) → Asks words asked → GivesReplay words contents → IsWhole asked contents
   whole_of asked asks gives =
       subst (λ (a : Asked). IsWhole a contents) (one_asked words gives.asked asked gives.asks asks)
       ((gives.lines, gives.inputs.has_script), (gives.image, gives.inputs.has_image))
 
+  cut_of : (asked : Asked) → Asks words asked → StopsByChance words contents end.entries → HasCut asked
+  cut_of asked asks stops =
+      subst HasCut (one_asked words stops.gives.asked asked stops.gives.asks asks) (stops.gives.lines, stops.gives.inputs.has_script, stops.replay.cut)
+
   -- where the words ask for these files, the status has its cause
   cause : (asked : Asked) → Asks words asked → end.status ≢ 4 → end.status ≢ 9 → HasCause asked
   cause asked asks a b = elim ended [
     | inl whole ↦ inl (inl whole.0, whole_of asked asks whole.1.0.gives)
-    | inr (inl chance) ↦ inl (inr chance.0, whole_of asked asks chance.1.0.gives)
+    | inr (inl chance) ↦ inl (inr (chance.0, cut_of asked asks chance.1.0), whole_of asked asks chance.1.0.gives)
     | inr (inr (inl none)) ↦ absurd (none.1 asked asks)
     | inr (inr (inr (inl why))) ↦ inr (
       line_of why.asked why.why,
@@ -341,9 +354,17 @@ module _ (words : List (List ℕ)) (contents : HostContents) (left : Option Host
     | inr (other, inr (inr same)) ↦ same.0
   ]
 
-  only_whole : GivesReplay words contents → IsReplayedUnlessHindered end.status
+  replayed : (gives : GivesReplay words contents) → (end.status ≡ 0) ⊎ ((end.status ≡ 5) × HasCut gives.asked)
+      → (end.status ≡ 0) ⊎ ((end.status ≡ 5) × (1 ≤ cuts_of gives.asked gives.lines))
+  replayed gives (inl is) = inl is
+  replayed gives (inr (is, (lines, script, cut))) = inr (
+    is,
+    subst (λ (l : List Line). 1 ≤ cuts_of gives.asked l) (one_list gives.asked.names.script contents lines gives.lines script gives.inputs.has_script) cut,
+  )
+
+  only_whole : (gives : GivesReplay words contents) → IsReplayedUnlessHindered gives.asked gives.lines end.status
   only_whole gives a b = let asked = gives.asked in let whole = whole_of asked gives.asks gives in elim (cause asked gives.asks a b) [
-    | inl same ↦ same.0
+    | inl same ↦ replayed gives same.0
     | inr (other, inl bad) ↦ absurd (no_script asked contents bad.1.0 bad.1.1 whole.0)
     | inr (other, inr (inl wrong)) ↦ absurd (image_or_whole asked contents other wrong.1 whole)
     | inr (other, inr (inr lacks)) ↦ absurd (image_or_unread asked contents (of_whole asked contents whole) (unread asked contents other lacks.1))
@@ -386,8 +407,8 @@ module _ (words : List (List ℕ)) (left : Option HostContents) (faults later : 
   pub only_file : (told : Option HostContents) → HasEnded words (seen told) end → IfSome told (λ c. (line : List ℕ) → Gives LacksFile words c line → IsUnlessHindered 6 end.status)
   only_file told ended = where_told told (λ c. (line : List ℕ) → Gives LacksFile words c line → IsUnlessHindered 6 end.status) ended (λ c e. only_lacking words c left end e)
 
-  pub only_done : (told : Option HostContents) → HasEnded words (seen told) end → IfSome told (λ c. GivesReplay words c → IsReplayedUnlessHindered end.status)
-  only_done told ended = where_told told (λ c. GivesReplay words c → IsReplayedUnlessHindered end.status) ended (λ c e. only_whole words c left end e)
+  pub only_done : (told : Option HostContents) → HasEnded words (seen told) end → IfSome told (λ c. (gives : GivesReplay words c) → IsReplayedUnlessHindered gives.asked gives.lines end.status)
+  only_done told ended = where_told told (λ c. (gives : GivesReplay words c) → IsReplayedUnlessHindered gives.asked gives.lines end.status) ended (λ c e. only_whole words c left end e)
 
 -- ---- a refusal leaves nothing
 

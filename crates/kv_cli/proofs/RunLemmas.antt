@@ -1,5 +1,5 @@
 -- What a replay leaves, by its session.
-use Rattle.std.proofs.Common.{◌≡◌, ℕ, ◌+◌, ◌-◌, ◌*◌, IsTrue, true, List, ◌++◌, length, refl, sym, ◌∙◌, ap, subst, inl, inr, arith}
+use Rattle.std.proofs.Common.{◌≡◌, ℕ, ◌+◌, ◌-◌, ◌*◌, IsTrue, true, false, List, ◌++◌, length, refl, sym, ◌∙◌, ap, subst, inl, inr, arith}
 use Rattle.std.specs.Prelude.{◌↔◌, Option, Some, None, MatchOption, Contains, Result, is_none, is_some}
 use Rattle.std.proofs.Math.Nat.{mul_assoc}
 use mathlib.Core.Bool.{false≢true}
@@ -47,12 +47,13 @@ use Rattle.session_core.specs.Backing.{primary_by, unmounted}
 use Rattle.session_core.specs.Chips.{device_in}
 use Rattle.session_core.specs.Growing.{GrowsBy, Told, WantsNoCollection, grown}
 use Rattle.session_core.specs.Mounting.{HasMounted}
-use Rattle.session_core.specs.Power.{HasPower, ShowsCuts, Steady, acts_of, cuts_in}
-use Rattle.session_core.specs.Replaying.{IsInOrderTo, IsStoppedAt, Replays, StillTells, TellsAt}
+use Rattle.session_core.specs.Power.{HasPower, LeavesPower, Power, ShowsCuts, Steady, acts_of, cuts_in, is_lost}
+use Rattle.session_core.specs.Replaying.{IsInOrderTo, IsStoppedAt, LeavesAt, Replays, StillTells, TellsAt}
 use Rattle.session_core.specs.Search.{IsChanceBy, IsChanceOf}
 use Rattle.session_core.specs.Settling.{IsSettled}
 use Rattle.session_core.specs.Telling.{HasLog, IsLogIn, TellsLog, over_one}
 use Rattle.session_core.specs.Views.{primary_in, state_in}
+use Rattle.session_core.proofs.ChanceLemmas.{chance_failed, chance_in_doubt}
 use Rattle.session_core.proofs.MountLemmas.{constants_kept, told_map}
 use Rattle.tdb_mount.specs.Format.{Leaves, LeavesBy}
 use Rattle.kv_cli.specs.declared.run.RunEnd.{RunEnd}
@@ -230,6 +231,10 @@ by_torn g h prog area image place (Some call) is = (call, break_alike g h prog a
 
 -- ---- the whole run
 
+powered : (cut : Option PowerCut) → is_lost (power_by cut) ≡ false
+powered None = refl
+powered (Some cut) = refl
+
 there_is : {X : Type 0} (o : Option X) → is_some o ≡ true → (x : X) × (o ≡ Some x)
 there_is None is = absurd (false≢true is)
 there_is (Some x) is = (x, refl)
@@ -287,13 +292,18 @@ module _ (asked : Asked) (image : List ℕ) (lines : List Line) (entries : List 
   }
 
   -- a record by chance is found in the chip that they leave
-  stopped_replay : (place : ℕ) → StopsInOrder entries lines → IsChanceOf (primary_in last) (Some place) → IsStoppedReplay asked image lines entries place
-  stopped_replay place in_order chance =
+  stopped_replay : (place : ℕ) → (state_in last).known.state ≡ Some after → StopsInOrder entries lines → IsChanceOf (primary_in last) (Some place)
+      → LeavesPower (state_in last) (power_by asked.cut) entries → IsStoppedReplay asked image lines entries place
+  stopped_replay place told in_order chance left =
       let torn = by_torn g asked.geometry prog area (primary_in last).image place (primary_in last).torn chance in
+      let failed = chance_failed last (power_by asked.cut) entries place after (powered asked.cut) left chance told in
       record {
         last = after;
         history = history;
         in_order = in_order;
+        in_doubt = chance_in_doubt last (power_by asked.cut) entries place after (powered asked.cut) left chance told;
+        failed = failed;
+        cut = omega (arith, failed, shows.few);
         chance = record { image = (primary_in last).image; sized = sized_in last ∙ same_size g asked.geometry area; call = torn.0; first = torn.1 };
       }
 
@@ -317,6 +327,12 @@ module _ (asked : Asked) (image : List ℕ) (lines : List Line) (first last : Se
   grows_then : outcome.ended ≡ ended.Whole → asked.cut ≡ None → cuts_in (acts_of lines) ≡ 0 → GrowsBy (state_in first) (primary_in last) (state_in last) entries_then
   grows_then whole none uncut = replays.grows whole (subst (λ (c : Option PowerCut). HasPower (state_in first) (power_by c)) none opened.power) uncut
 
+  abbrev LeftPower : Type 0
+  LeftPower = (power : Power) → HasPower (state_in first) power → LeavesPower (state_in last) power entries_then
+
+  left_power : LeftPower → LeavesPower (state_in last) (power_by asked.cut) entries_then
+  left_power leaves = leaves (power_by asked.cut) opened.power
+
   closed : outcome.ended ≡ ended.Whole → StillTells first last → InOrder entries_then lines → (end : RunEnd) → Closes last end → IsRunOf asked image lines entries_then end
   closed whole still in_order (end.Image written) left =
       let there = state_then still in
@@ -324,7 +340,8 @@ module _ (asked : Asked) (image : List ℕ) (lines : List Line) (first last : Se
       (grows_then whole)
   closed whole still in_order (end.Chance place) chance =
       let there = state_then still in
-      stopped_replay asked image lines entries_then first last opened there.0 (legal_then there.0 there.1) shows_then can.valid constants_then place (inl in_order) chance.1
+      stopped_replay asked image lines entries_then first last opened there.0 (legal_then there.0 there.1) shows_then can.valid constants_then place there.1 (inl in_order) chance.1
+      (left_power (subst (λ (e : Ended). LeavesAt e first last entries_then) whole replays.power))
 
   -- all lines were run, and the session was closed so
   pub closed_run : outcome.ended ≡ ended.Whole → (end : RunEnd) → Closes last end → IsRunOf asked image lines entries_then end
@@ -337,5 +354,6 @@ module _ (asked : Asked) (image : List ℕ) (lines : List Line) (first last : Se
   stopped_run side place chance =
       let there = state_then (subst (λ (e : Ended). TellsAt e first last) chance replays.tells) in
       let found = subst (λ (e : Ended). IsStoppedAt e last) chance replays.chance in
-      stopped_replay asked image lines entries_then first last opened there.0 (legal_then there.0 there.1) shows_then can.valid constants_then place
+      stopped_replay asked image lines entries_then first last opened there.0 (legal_then there.0 there.1) shows_then can.valid constants_then place there.1
       (inr (subst (λ (e : Ended). IsInOrderTo e entries_then lines) chance replays.in_order)) found.1
+      (left_power (subst (λ (e : Ended). LeavesAt e first last entries_then) chance replays.power))

@@ -19,7 +19,7 @@ use Rattle.kv_cli.specs.declared.stop.Stop.TheVariants as stop
 use Rattle.kv_cli.specs.Asked.{Asked, Asks, AsksNothing}
 use Rattle.kv_cli.specs.Inputs.{GivesReplay, HasInputs, IsBadLine, plain_replay}
 use Rattle.kv_cli.specs.Refusals.{words_line, Gives, LacksScript, LacksImage, LacksFile, HasSomeScript, limit_of, status_of, line_of, IsCause}
-use Rattle.kv_cli.specs.Replays.{IsReplayOf, IsStoppedReplay, chance_line, text_by}
+use Rattle.kv_cli.specs.Replays.{IsReplayOf, IsStoppedReplay, chance_line, cuts_of, text_by}
 
 -- a host before and behind a call: what it tells, and its count of faults
 pub record Around : Type 0 where
@@ -103,9 +103,9 @@ IsCutShort words contents left end =
 abbrev pub IsUnlessHindered : ℕ → ℕ → Type 0
 IsUnlessHindered expected status = status ≢ 4 → status ≢ 9 → status ≡ expected
 
--- the same of a replay, which a record by chance may stop
-abbrev pub IsReplayedUnlessHindered : ℕ → Type 0
-IsReplayedUnlessHindered status = status ≢ 4 → status ≢ 9 → (status ≡ 0) ⊎ (status ≡ 5)
+-- the same of a replay of these lines, which a record by chance may stop where a cut is asked for
+abbrev pub IsReplayedUnlessHindered : Asked → List Line → ℕ → Type 0
+IsReplayedUnlessHindered asked lines status = status ≢ 4 → status ≢ 9 → (status ≡ 0) ⊎ ((status ≡ 5) × (1 ≤ cuts_of asked lines))
 
 -- a host in memory takes the name
 abbrev pub IsShort : List ℕ → Type 0

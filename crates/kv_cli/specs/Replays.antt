@@ -1,5 +1,5 @@
 -- What a replay of a script over an image is.
-use Rattle.std.specs.Prelude.{◌≡◌, ◌⊎◌, ℕ, Bool, true, false, List, ◌++◌, None, length, codes, MatchOption, Contains}
+use Rattle.std.specs.Prelude.{◌≡◌, ◌≤◌, ◌⊎◌, ◌+◌, ℕ, Bool, true, false, List, ◌++◌, None, length, codes, is_some, MatchOption, Contains}
 use Rattle.std.specs.Fmt.{decimal}
 use Rattle.std.specs.FinMap as map
 use Rattle.flash_core.specs.Runs.{Done}
@@ -21,7 +21,7 @@ use Rattle.record_core.specs.Mounts.{Mounts}
 use Rattle.script_core.specs.declared.line.Line.{Line}
 use Rattle.script_core.specs.LineOrder.{InOrder}
 use Rattle.session_core.specs.Growing.{WantsNoCollection, grown}
-use Rattle.session_core.specs.Power.{ShowsCuts, acts_of, cuts_in}
+use Rattle.session_core.specs.Power.{ShowsCuts, acts_of, armed_cuts, cuts_in, write_faults_in}
 use Rattle.session_core.specs.Replaying.{IsMountBehind}
 use Rattle.session_core.specs.Telling.{IsLogIn, over_one}
 use Rattle.tdb_mount.specs.Format.{Leaves}
@@ -81,11 +81,19 @@ pub record IsByChance (asked : Asked) (place : ℕ) : Type 0 where
   pub call : DeviceCall
   pub first : FirstBreak asked.geometry (before_of call image) (after_of call image) image place
 
--- Lines were run in order, up to a mount that found a record by chance.
+-- how many cuts the words and the lines ask for
+abbrev pub cuts_of : Asked → List Line → ℕ
+cuts_of asked lines = cuts_in (acts_of lines) + armed_cuts (power_by asked.cut)
+
+-- Lines were run in order, up to a mount that found a record by chance: a write had failed behind a cut, and the call that
+-- made it is in doubt.
 pub record IsStoppedReplay (asked : Asked) (image : List ℕ) (lines : List Line) (entries : List Entry) (place : ℕ) : Type 0 where
   pub last : StoreState
   pub history : IsHistory asked image lines entries last
   pub in_order : StopsInOrder entries lines
+  pub in_doubt : is_some last.doubt ≡ true
+  pub failed : 1 ≤ write_faults_in entries
+  pub cut : 1 ≤ cuts_of asked lines
   pub chance : IsByChance asked place
 
 -- ---- what is printed

@@ -71,7 +71,7 @@ pub fn run_script(alloc: Global, asked: Asked<'_>, inputs: Inputs) -> Result<Run
 {
     let Inputs { script, image } = inputs;
     let mut session = open(alloc, asked, image)?;
-    let Outcome { journal, ended } = session.replay(alloc, &script);
+    let Outcome { journal, ended } = session.replay_lines(alloc, script.into_lines());
     match ended {
         Ended::Whole => {
             let end = close(alloc, session)?;

@@ -331,8 +331,8 @@ pub fn tool<H: Host>(alloc: Global, words: &[RcStr], host: &mut H) -> Report
         → Gives LacksFile (map rc_str_bytes words.now) c line
         → IsUnlessHindered 6 result.status) }
     ensures only_done { IfSome (H.contents host.old) (λ c.
-        GivesReplay (map rc_str_bytes words.now) c
-        → IsReplayedUnlessHindered result.status) }
+        (gives : GivesReplay (map rc_str_bytes words.now) c)
+        → IsReplayedUnlessHindered gives.asked gives.lines result.status) }
     ensures calm { (files room : ℕ) → H.is_calm host.old files room → 1 ≤ files
         → IsRoomFor (map rc_str_bytes words.now) result.journal.entries room
         → result.status ≢ 4 }

@@ -1,5 +1,3 @@
-use Rattle.std.proofs.Common.{◌≡◌, arith, rules, sym, ◌∙◌}
-use Rattle.std.specs.Prelude.{Err}
 use Rattle.kv_cli.specs.Asked.{asked_in}
 use Rattle.kv_cli.proofs.EndLemmas.{ended_behind, fits_in, refused_behind}
 use Rattle.kv_cli.proofs.tool.end_for.Goals as goal
