@@ -28,7 +28,7 @@ use Rattle.sealed_pair.specs.Removing.{FlagsOr, is_once}
 use Rattle.sealed_pair.specs.Running.{HasRun, IsIdle, parts}
 use Rattle.sealed_pair.specs.Sealing.{is_numbered}
 use Rattle.sealed_pair.specs.SecureStep.{is_protected, last_number, secure_rules, set_checks, unmirrors}
-use Rattle.sealed_pair.specs.Setting.{IsAdmitted, IsRefusedSet, RefusesBy, TagOr, admitted, flags_with, room_checks, tag_with}
+use Rattle.sealed_pair.specs.Setting.{IsAdmitted, IsRefusedSet, RefusesBy, TagOr, admitted, flags_with, request_of, room_checks, tag_with}
 use Rattle.sealed_pair.specs.Store.{joined}
 use Rattle.sealed_pair.proofs.BehindLemmas.{run_refused}
 use Rattle.sealed_pair.proofs.PairLemmas.{carries_above, carries_below, cause_carried, read_none}
@@ -139,7 +139,7 @@ module _ (root : List ℕ) (number : ℕ) (by_above by_below : Constants → Rul
       (refl, set_may_read constants number above below who key size flags named secure most)
 
   pub unread_above : (e : KvError) → IsUnread u u' e → WhereTold by_above u (λ state. FlagsOr (get state.primary key) (Err e))
-      → IsRefusedSet (parts root number by_above u by_below r) (parts root number by_above u' by_below r) key size flags e
+      → IsRefusedSet (parts root number by_above u by_below r) (parts root number by_above u' by_below r) (request_of key size flags) e
   unread_above e unread fails = record {
     cause = λ before after. cause_carried (carries_above root u u' r r before after (read_none r).keeps) e unread.cause;
     unwritten = unread_unwritten u u' e unread;
@@ -148,7 +148,7 @@ module _ (root : List ℕ) (number : ℕ) (by_above by_below : Constants → Rul
 
   module _ (two : HasRead r r') where
     pub unread_below : (e : KvError) → IsUnread r r' e → WhereTold by_below r (λ state. TagOr (get state.primary key) (Err e))
-        → IsRefusedSet (parts root number by_above u by_below r) (parts root number by_above u' by_below r') key size flags e
+        → IsRefusedSet (parts root number by_above u by_below r) (parts root number by_above u' by_below r') (request_of key size flags) e
     unread_below e unread fails = record {
       cause = λ before after. cause_carried (carries_below root u u' r r' before after one.keeps) e unread.cause;
       unwritten = unread_unwritten r r' e unread;
@@ -185,7 +185,7 @@ module _ (root : List ℕ) (number : ℕ) (by_above by_below : Constants → Rul
           }
 
       pub is_refused : (e : KvError) → admitted f t flags number ≡ Err e
-          → IsRefusedSet (parts root number by_above u by_below r) (parts root number by_above u' by_below r') key size flags e
+          → IsRefusedSet (parts root number by_above u by_below r) (parts root number by_above u' by_below r') (request_of key size flags) e
       is_refused e is = record {
         cause = λ before after. answer_cause p m s (tag_with t) e (pair root before u r).known (pair root after u' r').known is;
         unwritten = answer_unwritten p m s (tag_with t) e is;
@@ -236,7 +236,7 @@ module _ (root : List ℕ) (number : ℕ) (by_above by_below : Constants → Rul
   leads_by state e Mismatched running refuses_it = absurd refuses_it
   leads_by state e Wanted running refuses_it = absurd refuses_it
 
-  pub set_refused : HasRead u u' → HasRead r r' → (e : KvError) → IsRefusedSet (parts root number by_above u by_below r) (parts root number by_above u' by_below r') key size flags e
+  pub set_refused : HasRead u u' → HasRead r r' → (e : KvError) → IsRefusedSet (parts root number by_above u by_below r) (parts root number by_above u' by_below r') (request_of key size flags) e
       → HasRun (parts root number by_above u by_below r) (parts root number by_above u' by_below r') (answered who operation (Refused e))
   set_refused one two e refused =
       run_refused root number by_above by_below u u' r r' one two who operation e refused.cause (asks.ends (kind_of (Refused e)))

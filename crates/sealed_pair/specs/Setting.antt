@@ -85,12 +85,21 @@ RefusesBy checks error FailedWrite = ⊥
 RefusesBy checks error Mismatched = ⊥
 RefusesBy checks error Wanted = ⊥
 
+-- what a set asks for: a value of so many bytes under a key, with flags
+pub record SetRequest : Type 0 where
+  pub key : List ℕ
+  pub size : ℕ
+  pub flags : ℕ
+
+abbrev pub request_of : List ℕ → ℕ → ℕ → SetRequest
+request_of key size flags = record { key = key; size = size; flags = flags }
+
 -- A set of so many bytes that was refused before anything was written.
-pub record IsRefusedSet (old new : Parts) (key : List ℕ) (size flags : ℕ) (error : KvError) : Type 0 where
+pub record IsRefusedSet (old new : Parts) (request : SetRequest) (error : KvError) : Type 0 where
   pub cause : (before after : Joining) → IsCause (as_one before old).known (as_one after new).known (Refused error)
   pub unwritten : error ≢ WriteFault
   pub leads : WhereRun old (λ above below. (who : ℕ) → RefusesBy
-      (set_checks (pair_constants old.root old.primary.known.constants old.rollback.known.constants) (one_of old above below) who key size flags)
+      (set_checks (pair_constants old.root old.primary.known.constants old.rollback.known.constants) (one_of old above below) who request.key request.size request.flags)
       error (kind_of (Refused error)))
 
 -- the next number after a set, and whether it is still one

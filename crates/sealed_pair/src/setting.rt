@@ -12,7 +12,7 @@ ghost use Rattle.secure_record.specs.Streams.{HasSealed};
 ghost use Rattle.sealed_pair.specs.Reading.{HasRead, IsUnread, WhereTold};
 ghost use Rattle.sealed_pair.specs.Running.{HasRun, parts};
 ghost use Rattle.sealed_pair.specs.Sealing.{is_numbered, kept_flags};
-ghost use Rattle.sealed_pair.specs.Setting.{FailsToAdd, HasAdded, HasAddedPart, HasAddedRecord, HasGivenUp, HasMoved, IsAdmitted, IsFilled, IsRefusedSet, MayRefuse, BeginsRecord, StartsSet, TagOr, TakesOne, admitted, asked_of, bytes_of, calls, flags_with, number_left, record_set, tag_set, tag_with, vector_of};
+ghost use Rattle.sealed_pair.specs.Setting.{FailsToAdd, HasAdded, HasAddedPart, HasAddedRecord, HasGivenUp, HasMoved, IsAdmitted, IsFilled, IsRefusedSet, MayRefuse, BeginsRecord, StartsSet, TagOr, TakesOne, admitted, asked_of, bytes_of, calls, flags_with, number_left, record_set, request_of, tag_set, tag_with, vector_of};
 
 use crate::keys::key_of;
 use crate::limits::{MAX_SECURE_VALUE, SEAL_SIZE, TAG_SIZE};
@@ -145,7 +145,7 @@ pub(crate) fn check_set<U: Kv, R: Kv>(
     ensures refused { (root : List ℕ) → IfErr result (λ error. IsRefusedSet
         (parts root number U.rules_by (U.state primary.old) R.rules_by (R.state rollback.old))
         (parts root number U.rules_by (U.state primary.new) R.rules_by (R.state rollback.new))
-        key.now size flags.bits error) }
+        (request_of key.now size flags.bits) error) }
 {
     if !is_secure(flags) {
         return Err(KvError::InvalidFlags);

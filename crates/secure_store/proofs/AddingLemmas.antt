@@ -5,7 +5,6 @@ use Rattle.std.proofs.lemmas.Bool.Decides.{nat_tests}
 use Rattle.kv_model.specs.declared.error.KvError.{KvError}
 use Rattle.kv_model.specs.declared.error.KvError.TheVariants.{InvalidSize, NoSet}
 use Rattle.kv_model.specs.declared.call.Reply.TheVariants.{Refused}
-use Rattle.kv_model.specs.Checks.{first_refusal}
 use Rattle.kv_model.specs.Constants.{Constants}
 use Rattle.kv_model.specs.StoreState.{OpenSet, StoreState}
 use Rattle.kv_model.specs.Operations.{Add}
@@ -15,7 +14,7 @@ use Rattle.sealed_pair.specs.declared.active.Active.{Active}
 use Rattle.sealed_pair.specs.declared.active.Begun.{Begun}
 use Rattle.sealed_pair.specs.declared.active.Begun.TheVariants.{Remove, Set}
 use Rattle.sealed_pair.specs.Active.{IsActive, IsBegun, IsCounted, may_take, opened_by, own_of}
-use Rattle.sealed_pair.specs.Pair.{pair, pair_constants}
+use Rattle.sealed_pair.specs.Pair.{pair_constants}
 use Rattle.sealed_pair.specs.SecureStep.{secure_rules}
 use Rattle.sealed_pair.specs.Store.{Own, joined_by}
 use Rattle.sealed_pair.proofs.PieceLemmas.{body_left}

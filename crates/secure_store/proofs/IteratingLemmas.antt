@@ -18,10 +18,8 @@ use Rattle.kv_model.specs.Kv.{Answers, Kind, KvState, LeadsTo, TellsOnly, answer
 use Rattle.kv_model.specs.Checks.{Check, first_refusal, may_fail_reading}
 use Rattle.sealed_pair.specs.Pair.{pair, pair_constants}
 use Rattle.sealed_pair.specs.SecureStep.{secure_rules}
-use Rattle.store_note.specs.declared.noted.Noted.{Noted}
 use Rattle.secure_store.specs.declared.stop.Stop.{Stop}
-use Rattle.secure_store.specs.declared.stop.Stop.TheVariants.{InCall, InRecover}
-use Rattle.secure_store.specs.Doubts.{told_by, noted_in}
+use Rattle.secure_store.specs.Doubts.{told_by}
 use Rattle.sealed_pair.specs.Shares.{Holds, Share, NoShare, HasSet, LacksKey}
 use Rattle.sealed_pair.specs.Store.{IsPlainStore, IsPlainWhile, Own, joined_by}
 use Rattle.sealed_pair.proofs.PairLemmas.{carries_above, cause_all, first_of, keeps_both, read_none, same_told, second_of, told_both, unless_both}

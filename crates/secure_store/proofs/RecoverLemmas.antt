@@ -1,5 +1,5 @@
 -- What a recover on the two stores is to a secure store.
-use Rattle.std.proofs.Common.{◌≡◌, ◌⊎◌, inl, inr, ℕ, Bool, true, false, List, Option, Some, None, Result, Ok, Err, refl, sym, ◌∙◌, ap, ap₂, subst, arith}
+use Rattle.std.proofs.Common.{◌≡◌, inl, inr, ℕ, Bool, true, List, Option, Some, None, Result, Ok, Err, refl, sym, ◌∙◌, ap, ap₂, subst, arith}
 use Rattle.std.specs.Prelude.{◌&&◌, is_none, is_some, IsTrue, MatchOption}
 use Rattle.std.specs.Option.{ForSome}
 use mathlib.Core.Bool.{false≢true}
@@ -14,15 +14,15 @@ use Rattle.kv_model.specs.Given.{done_or}
 use Rattle.kv_model.specs.Kv.{IsCause, IsLawful, Keeps, Kind, KvState, TellsOnly, UnlessFailedWrite, kind_of, Ruled, FailedRead, FailedWrite, Mismatched, Wanted}
 use Rattle.kv_model.specs.Rules.{Rules}
 use Rattle.kv_model.specs.StoreState.{Doubt, Maps, StoreState, maps_of}
-use Rattle.sealed_pair.specs.Pair.{both, pair, pair_constants}
+use Rattle.sealed_pair.specs.Pair.{both, pair}
 use Rattle.sealed_pair.specs.Reading.{HasRead, WhereTold}
 use Rattle.sealed_pair.specs.Recovering.{HasWritten, StillRuns, TellsAmong, secure_by}
 use Rattle.sealed_pair.specs.declared.active.Active.{Active}
 use Rattle.sealed_pair.specs.Active.{share_above, share_below}
-use Rattle.sealed_pair.specs.Shares.{NoShare, Share}
+use Rattle.sealed_pair.specs.Shares.{Share}
 use Rattle.sealed_pair.specs.Running.{IsIdle, StaysIdle}
 use Rattle.sealed_pair.specs.Store.{IsFreshStore, IsPlainStore, IsPlainWhile, Own, joined_by}
-use Rattle.sealed_pair.specs.Walking.{Completes, HasChanged, IsBetween, IsReadOrWant, RewritesEach, all_healed}
+use Rattle.sealed_pair.specs.Walking.{Completes, IsBetween, IsReadOrWant, RewritesEach, all_healed}
 use Rattle.sealed_pair.proofs.PairLemmas.{ToldBoth, both_of, first_of, keeps_both, read_none, second_of, told_both}
 use Rattle.sealed_pair.proofs.StoreReadLemmas.{tells_plain}
 use Rattle.secure_store.specs.declared.stop.Stop.{Stop}

@@ -1,5 +1,5 @@
 -- A set that is refused while a set is active, with no call of either store.
-use Rattle.std.proofs.Common.{◌≡◌, ℕ, Bool, true, false, List, length, Option, Some, None, refl, sym, ◌∙◌, ap, subst}
+use Rattle.std.proofs.Common.{◌≡◌, ℕ, Bool, true, false, List, Option, Some, None, refl, sym, ◌∙◌, ap, subst}
 use Rattle.std.specs.Prelude.{◌==◌, if◌then◌else◌, nat_lt, is_none, is_some, IsTrue}
 use mathlib.Core.Bool.{false≢true}
 use Rattle.kv_model.specs.declared.error.KvError.{KvError}
@@ -13,15 +13,13 @@ use Rattle.kv_model.specs.Operations.{Operation, Remove}
 use Rattle.kv_model.specs.Checks.{first_refusal}
 use Rattle.kv_model.specs.Rules.{Outcome, Rules, refused_or, refuses, step}
 use Rattle.kv_model.specs.Kv.{Answers, IsCause, Kind, KvState, LeadsTo, answered, kind_of, may_end, Ruled}
-use Rattle.store_note.specs.declared.noted.Noted.{Noted}
 use Rattle.secure_store.specs.declared.stop.Stop.{Stop}
-use Rattle.secure_store.specs.declared.stop.Stop.TheVariants.{InCall, InRecover}
 use Rattle.sealed_pair.specs.declared.active.Active.{Active}
 use Rattle.sealed_pair.specs.declared.active.Begun.{Begun}
 use Rattle.sealed_pair.specs.declared.active.Begun.TheVariants as begun
 use Rattle.sealed_pair.specs.declared.limits.TheConstants.{MAX_SECURE_VALUE}
 use Rattle.sealed_pair.specs.Active.{opened_by, own_of, taken}
-use Rattle.secure_store.specs.Doubts.{told_by, noted_in}
+use Rattle.secure_store.specs.Doubts.{told_by}
 use Rattle.sealed_pair.specs.Pair.{pair, pair_constants}
 use Rattle.sealed_pair.specs.SecureStep.{secure_rules, set_checks}
 use Rattle.sealed_pair.specs.Store.{Own, joined_by}

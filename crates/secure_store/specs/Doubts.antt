@@ -1,7 +1,9 @@
 -- What a secure store tells once a write failed: the state in which the call in doubt began, with that call.
-use Rattle.std.specs.Prelude.{◌≡◌, ℕ, true, List, Option, Some, None, is_some, unwrap_or, MatchOption, Contains}
+use Rattle.std.specs.Prelude.{◌≡◌, ◌≢◌, ◌⊎◌, ℕ, true, List, Option, Some, None, is_some, unwrap_or, MatchOption, Contains, Result, Ok, Err}
 use Rattle.std.specs.Option.{ForSome, IfSome}
 use Rattle.std.specs.FinMap.{empty}
+use Rattle.kv_model.specs.declared.error.KvError.{KvError}
+use Rattle.kv_model.specs.declared.error.KvError.TheVariants.{Stopped, WriteFault}
 use Rattle.kv_model.specs.Constants.{Constants}
 use Rattle.kv_model.specs.StoreState.{Doubt, Maps, StoreState, fresh_state}
 use Rattle.kv_model.specs.Operations.{Operation}
@@ -50,3 +52,12 @@ pub record IsStopped (root : List ℕ) (primary rollback : KvState) (noted : Sto
 
 abbrev pub WhereStopped : List ℕ → Option StoreState → KvState → KvState → Type 0
 WhereStopped root noted primary rollback = IfSome noted (IsStopped root primary rollback)
+
+-- a store that was stopped answers so, and stays stopped
+abbrev pub StaysStopped : {T : Type 0} → Option Stop → Option Stop → Result T KvError → Type 0
+StaysStopped old new result = is_some old ≡ true → (result ≡ Err Stopped) × (new ≡ old)
+
+-- a failed write stops a store, and nothing else does
+abbrev pub StopsOnFault : {T : Type 0} → Option Stop → Option Stop → Result T KvError → Type 0
+StopsOnFault old new (Ok value) = new ≡ old
+StopsOnFault old new (Err error) = ((error ≡ WriteFault) × (is_some new ≡ true)) ⊎ ((error ≢ WriteFault) × (new ≡ old))

@@ -16,7 +16,7 @@ use Rattle.sealed_pair.specs.Active.{IsActive, IsBegun}
 use Rattle.sealed_pair.specs.Shares.{Holds, Share, NoShare, HasSet, LacksKey}
 use Rattle.sealed_pair.specs.Store.{IsPlainWhile}
 
-stored_code : Coded Stored
+pub stored_code : Coded Stored
 stored_code = code_by (ℕ × List ℕ) (coded× coded_ℕ (coded_list coded_ℕ)) (λ (s : Stored). (s.flags, s.bytes)) (λ t. record { flags = t.0; bytes = t.1 }) (λ _. refl)
 
 map_set : IsSet FlaggedMap

@@ -8,7 +8,6 @@ use Rattle.kv_model.specs.Constants.{Constants}
 use Rattle.kv_model.specs.FlaggedMap.{FlaggedMap}
 use Rattle.kv_model.specs.Given.{done_or}
 use Rattle.kv_model.specs.Kv.{IsCause, Keeps, KvState, TellsOnly, UnlessFailedWrite, kind_of}
-use Rattle.kv_model.specs.Rules.{Rules}
 use Rattle.kv_model.specs.StoreState.{Doubt, Maps, StoreState, maps_of}
 use Rattle.sealed_pair.specs.Recovering.{TellsAmong}
 use Rattle.sealed_pair.specs.SecureStep.{secure_rules}

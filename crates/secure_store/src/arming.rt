@@ -15,6 +15,8 @@ impl<U: Armable, R: Armable> SecureStore<U, R> {
         ensures rollback { self.new.rollback ≡ self.old.rollback }
         ensures root { self.new.root ≡ self.old.root }
         ensures iv { self.new.iv ≡ self.old.iv }
+        ensures active { self.new.active ≡ self.old.active }
+        ensures stopped { self.new.stopped ≡ self.old.stopped }
     {
         self.primary.arm(alloc, n, pattern)
     }
@@ -27,6 +29,8 @@ impl<U: Armable, R: Armable> SecureStore<U, R> {
         ensures primary { self.new.primary ≡ self.old.primary }
         ensures root { self.new.root ≡ self.old.root }
         ensures iv { self.new.iv ≡ self.old.iv }
+        ensures active { self.new.active ≡ self.old.active }
+        ensures stopped { self.new.stopped ≡ self.old.stopped }
     {
         self.rollback.arm(alloc, n, pattern)
     }

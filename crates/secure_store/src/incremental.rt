@@ -3,6 +3,7 @@ ghost use Rattle.std.specs.Prelude.{◌≡◌, true, None, is_none};
 ghost use Rattle.kv_model.specs.Given.{done_or};
 ghost use Rattle.kv_model.specs.Kv.{Answers, answered};
 ghost use Rattle.kv_model.specs.Operations.{Abort, Add, Finish, RemoveStart};
+ghost use Rattle.secure_store.specs.Doubts.{StaysStopped, StopsOnFault};
 ghost use Rattle.secure_store.specs.SecureState.{state_in};
 ghost use Rattle.sealed_pair.specs.SecureStep.{secure_rules};
 
@@ -19,8 +20,11 @@ impl<U: Kv, R: Kv> SecureStore<U, R> {
     /// Begins a remove that `set_finish` completes. It makes every check and read of `remove`, and
     /// takes no memory.
     pub fn remove_start(&mut self, who: u8, key: &[u8]) -> Result<(), KvError>
-        ensures { Answers secure_rules (state_in self.old) (state_in self.new)
+        ensures answers { Answers secure_rules (state_in self.old) (state_in self.new)
             (answered who (RemoveStart key.now) (done_or result)) }
+        ensures stopped { StaysStopped self.old.stopped self.new.stopped result }
+        ensures stops { StopsOnFault self.old.stopped self.new.stopped result }
+        ensures number { self.new.iv ≡ self.old.iv }
     {
         if self.stopped.is_some() {
             return Err(KvError::Stopped);
@@ -38,8 +42,10 @@ impl<U: Kv, R: Kv> SecureStore<U, R> {
     fn remove_start_free(&mut self, who: u8, key: Key) -> Result<(), KvError>
         requires running { is_none self.old.stopped ≡ true }
         requires free { self.old.active ≡ None }
-        ensures { Answers secure_rules (state_in self.old) (state_in self.new)
+        ensures answers { Answers secure_rules (state_in self.old) (state_in self.new)
             (answered who (RemoveStart key) (done_or result)) }
+        ensures stops { StopsOnFault self.old.stopped self.new.stopped result }
+        ensures number { self.new.iv ≡ self.old.iv }
     {
         let call = Asking::RemoveStart {
             key: key.as_slice(),
@@ -64,8 +70,11 @@ impl<U: Kv, R: Kv> SecureStore<U, R> {
     ///
     /// `InvalidSize` comes where the set wants fewer bytes; then none is appended.
     pub fn set_add(&mut self, who: u8, value: &[u8]) -> Result<(), KvError>
-        ensures { Answers secure_rules (state_in self.old) (state_in self.new)
+        ensures answers { Answers secure_rules (state_in self.old) (state_in self.new)
             (answered who (Add value.now) (done_or result)) }
+        ensures stopped { StaysStopped self.old.stopped self.new.stopped result }
+        ensures stops { StopsOnFault self.old.stopped self.new.stopped result }
+        ensures number { self.new.iv ≡ self.old.iv }
     {
         if self.stopped.is_some() {
             return Err(KvError::Stopped);
@@ -97,8 +106,11 @@ impl<U: Kv, R: Kv> SecureStore<U, R> {
     ///
     /// `InvalidSize` comes where bytes of the value are missing, and the set is given up.
     pub fn set_finish(&mut self, who: u8) -> Result<(), KvError>
-        ensures { Answers secure_rules (state_in self.old) (state_in self.new)
+        ensures answers { Answers secure_rules (state_in self.old) (state_in self.new)
             (answered who Finish (done_or result)) }
+        ensures stopped { StaysStopped self.old.stopped self.new.stopped result }
+        ensures stops { StopsOnFault self.old.stopped self.new.stopped result }
+        ensures number { self.new.iv ≡ self.old.iv }
     {
         if self.stopped.is_some() {
             return Err(KvError::Stopped);
@@ -121,8 +133,11 @@ impl<U: Kv, R: Kv> SecureStore<U, R> {
 
     /// Gives up what the caller has begun.
     pub fn set_abort(&mut self, who: u8) -> Result<(), KvError>
-        ensures { Answers secure_rules (state_in self.old) (state_in self.new)
+        ensures answers { Answers secure_rules (state_in self.old) (state_in self.new)
             (answered who Abort (done_or result)) }
+        ensures stopped { StaysStopped self.old.stopped self.new.stopped result }
+        ensures number { self.new.iv ≡ self.old.iv }
+        ensures stop { self.new.stopped ≡ self.old.stopped }
     {
         if self.stopped.is_some() {
             return Err(KvError::Stopped);

@@ -7,11 +7,16 @@
 
 mod arming;
 mod asking;
+mod calls;
 mod doubt;
+#[cfg(test)]
+mod image_tests;
 mod incremental;
 mod iterating;
 mod reads;
 mod recovering;
+#[cfg(test)]
+mod row_tests;
 mod sets;
 mod starts;
 mod stop;

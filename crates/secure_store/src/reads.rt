@@ -3,6 +3,7 @@ ghost use Rattle.std.specs.Prelude.{◌≡◌, ◌≤◌, ℕ, true, IfOk, None,
 ghost use Rattle.kv_model.specs.Given.{AreZerosFrom, IsGot, facts_or, got_or, read_end};
 ghost use Rattle.kv_model.specs.Kv.{Answers, answered};
 ghost use Rattle.kv_model.specs.Operations.{Info as InfoOf, Part};
+ghost use Rattle.secure_store.specs.Doubts.{StaysStopped};
 ghost use Rattle.secure_store.specs.SecureState.{state_in};
 ghost use Rattle.sealed_pair.specs.SecureStep.{secure_rules};
 ghost use Rattle.sealed_pair.specs.Store.{IsFreshStore, OwnsWhole, WithinOr};
@@ -49,6 +50,7 @@ impl<U: Kv, R: Kv> SecureStore<U, R> {
         ensures root { result.root ≡ root.now }
         ensures iv { result.iv ≡ iv }
         ensures free { result.active ≡ None }
+        ensures runs { result.stopped ≡ None }
     {
         SecureStore {
             primary,
@@ -107,6 +109,8 @@ impl<U: Kv, R: Kv> SecureStore<U, R> {
             (IsGot secure_rules (state_in self.old) key.now (length buf.old)) }
         ensures own { IfOk result (λ got. OwnsWhole self.old.root key.now
             (R.state self.old.rollback) offset got buf.new) }
+        ensures number { self.new.iv ≡ self.old.iv }
+        ensures stop { self.new.stopped ≡ self.old.stopped }
     {
         let (primary, rollback) = (&mut self.primary, &mut self.rollback);
         match view_key(primary, rollback, &self.root, key, offset, buf) {
@@ -124,6 +128,8 @@ impl<U: Kv, R: Kv> SecureStore<U, R> {
             (IsGot secure_rules (state_in self.old) key.now (length buf.old)) }
         ensures own { IfOk result (λ got. OwnsWhole self.old.root key.now
             (R.state self.old.rollback) offset got buf.new) }
+        ensures number { self.new.iv ≡ self.old.iv }
+        ensures stop { self.new.stopped ≡ self.old.stopped }
     {
         match key_of(key) {
             Ok(key) => self.read(&key, offset, buf),
@@ -145,6 +151,9 @@ impl<U: Kv, R: Kv> SecureStore<U, R> {
         ensures zeros { AreZerosFrom (read_end result) buf.new }
         ensures own { IfOk result (λ got. OwnsWhole self.old.root key.now
             (R.state self.old.rollback) offset got buf.new) }
+        ensures stopped { StaysStopped self.old.stopped self.new.stopped result }
+        ensures number { self.new.iv ≡ self.old.iv }
+        ensures stop { self.new.stopped ≡ self.old.stopped }
     {
         if self.stopped.is_some() {
             clear_from(buf, 0);
@@ -165,8 +174,10 @@ impl<U: Kv, R: Kv> SecureStore<U, R> {
     // What a key shows, without a byte of its value.
     fn describe(&mut self, key: &Key) -> Result<Info, KvError>
         requires { is_none self.old.stopped ≡ true }
-        ensures { (who : ℕ) → Answers secure_rules (state_in self.old) (state_in self.new)
+        ensures answers { (who : ℕ) → Answers secure_rules (state_in self.old) (state_in self.new)
             (answered who (InfoOf key.now) (facts_or result)) }
+        ensures number { self.new.iv ≡ self.old.iv }
+        ensures stop { self.new.stopped ≡ self.old.stopped }
     {
         let (primary, rollback) = (&mut self.primary, &mut self.rollback);
         match view_key(primary, rollback, &self.root, key, 0, &mut []) {
@@ -181,8 +192,11 @@ impl<U: Kv, R: Kv> SecureStore<U, R> {
     /// The size and the flags of a value, once its whole record is read and checked. It takes no
     /// memory.
     pub fn info(&mut self, key: &[u8]) -> Result<Info, KvError>
-        ensures { (who : ℕ) → Answers secure_rules (state_in self.old) (state_in self.new)
+        ensures answers { (who : ℕ) → Answers secure_rules (state_in self.old) (state_in self.new)
             (answered who (InfoOf key.now) (facts_or result)) }
+        ensures stopped { StaysStopped self.old.stopped self.new.stopped result }
+        ensures number { self.new.iv ≡ self.old.iv }
+        ensures stop { self.new.stopped ≡ self.old.stopped }
     {
         if self.stopped.is_some() {
             return Err(KvError::Stopped);

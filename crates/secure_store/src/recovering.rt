@@ -1,6 +1,7 @@
 // The recover of a secure store.
 ghost use Rattle.std.specs.Prelude.{◌≡◌, true, None, is_none};
 ghost use Rattle.secure_store.specs.Recover.{HasNoIterators, HasRecovered, StopsAfter};
+ghost use Rattle.secure_store.specs.Doubts.{StaysStopped};
 ghost use Rattle.secure_store.specs.SecureState.{state_in};
 
 use crate::stop::Stop;
@@ -34,7 +35,10 @@ impl<U: Kv, R: Kv> SecureStore<U, R> {
     pub fn recover(&mut self) -> Result<u32, KvError>
         requires free { self.old.active ≡ None }
         requires iterators { HasNoIterators (U.state self.old.primary) }
-        ensures { HasRecovered (state_in self.old) (state_in self.new) result }
+        ensures recovers { HasRecovered (state_in self.old) (state_in self.new) result }
+        ensures stopped { StaysStopped self.old.stopped self.new.stopped result }
+        ensures stops { is_none self.old.stopped ≡ true → StopsAfter result self.new.stopped }
+        ensures number { self.new.iv ≡ self.old.iv }
     {
         if self.stopped.is_some() {
             return Err(KvError::Stopped);
@@ -47,7 +51,9 @@ impl<U: Kv, R: Kv> SecureStore<U, R> {
         requires running { is_none self.old.stopped ≡ true }
         requires free { self.old.active ≡ None }
         requires iterators { HasNoIterators (U.state self.old.primary) }
-        ensures { HasRecovered (state_in self.old) (state_in self.new) result }
+        ensures recovers { HasRecovered (state_in self.old) (state_in self.new) result }
+        ensures stops { StopsAfter result self.new.stopped }
+        ensures number { self.new.iv ≡ self.old.iv }
     {
         let (primary, rollback) = (&mut self.primary, &mut self.rollback);
         let healed = heal_all(primary, rollback, &self.root, 0);

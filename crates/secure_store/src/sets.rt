@@ -5,6 +5,7 @@ ghost use Rattle.kv_model.specs.Kv.{Answers, answered};
 ghost use Rattle.kv_model.specs.Operations.{Set};
 ghost use Rattle.kv_model.specs.Rules.{number_taken};
 ghost use Rattle.sealed_pair.specs.Sealing.{is_numbered};
+ghost use Rattle.secure_store.specs.Doubts.{StaysStopped, StopsOnFault};
 ghost use Rattle.secure_store.specs.SecureState.{state_in};
 ghost use Rattle.sealed_pair.specs.SecureStep.{last_number, secure_rules};
 ghost use Rattle.sealed_pair.specs.Setting.{NumberLeft};
@@ -42,6 +43,8 @@ impl<U: Kv, R: Kv> SecureStore<U, R> {
         ensures answers { Answers secure_rules (state_in self.old) (state_in self.new)
             (answered who (Set key.now value.now flags.bits) (done_or result)) }
         ensures number { NumberLeft self.old.iv self.new.iv flags.bits result }
+        ensures stopped { StaysStopped self.old.stopped self.new.stopped result }
+        ensures stops { StopsOnFault self.old.stopped self.new.stopped result }
     {
         if self.stopped.is_some() {
             return Err(KvError::Stopped);
@@ -70,6 +73,7 @@ impl<U: Kv, R: Kv> SecureStore<U, R> {
         ensures answers { Answers secure_rules (state_in self.old) (state_in self.new)
             (answered who (Set key.now value.now flags.bits) (done_or result)) }
         ensures number { NumberLeft self.old.iv self.new.iv flags.bits result }
+        ensures stops { StopsOnFault self.old.stopped self.new.stopped result }
     {
         let note = in_doubt(self, who, Asking::Set { key, value, flags });
         let number = self.iv;

@@ -3,6 +3,7 @@ ghost use Rattle.std.specs.Prelude.{◌≡◌, true, None, is_none};
 ghost use Rattle.kv_model.specs.Given.{done_or};
 ghost use Rattle.kv_model.specs.Kv.{Answers, answered};
 ghost use Rattle.kv_model.specs.Operations.{Start};
+ghost use Rattle.secure_store.specs.Doubts.{StaysStopped, StopsOnFault};
 ghost use Rattle.secure_store.specs.SecureState.{state_in};
 ghost use Rattle.sealed_pair.specs.SecureStep.{secure_rules};
 ghost use Rattle.sealed_pair.specs.Setting.{NumberLeft};
@@ -23,6 +24,8 @@ impl<U: Kv, R: Kv> SecureStore<U, R> {
         ensures answers { Answers secure_rules (state_in self.old) (state_in self.new)
             (answered who (Start key.now size flags.bits) (done_or result)) }
         ensures number { NumberLeft self.old.iv self.new.iv flags.bits result }
+        ensures stopped { StaysStopped self.old.stopped self.new.stopped result }
+        ensures stops { StopsOnFault self.old.stopped self.new.stopped result }
     {
         if self.stopped.is_some() {
             return Err(KvError::Stopped);
@@ -57,6 +60,7 @@ impl<U: Kv, R: Kv> SecureStore<U, R> {
         ensures answers { Answers secure_rules (state_in self.old) (state_in self.new)
             (answered start.who (Start start.key start.size start.flags.bits) (done_or result)) }
         ensures number { NumberLeft self.old.iv self.new.iv start.flags.bits result }
+        ensures stops { StopsOnFault self.old.stopped self.new.stopped result }
     {
         let (size, flags) = (start.size, start.flags);
         let call = Asking::Start {

@@ -3,6 +3,7 @@ ghost use Rattle.std.specs.Prelude.{◌≡◌, true, None, is_none};
 ghost use Rattle.kv_model.specs.Given.{done_or};
 ghost use Rattle.kv_model.specs.Kv.{Answers, answered};
 ghost use Rattle.kv_model.specs.Operations.{Remove, Reset};
+ghost use Rattle.secure_store.specs.Doubts.{StaysStopped, StopsOnFault};
 ghost use Rattle.secure_store.specs.SecureState.{state_in};
 ghost use Rattle.sealed_pair.specs.SecureStep.{secure_rules};
 
@@ -17,8 +18,11 @@ impl<U: Kv, R: Kv> SecureStore<U, R> {
     /// Takes a key away from each store that has it: prepared in both, then done in the primary
     /// first. It takes no memory.
     pub fn remove(&mut self, who: u8, key: &[u8]) -> Result<(), KvError>
-        ensures { Answers secure_rules (state_in self.old) (state_in self.new)
+        ensures answers { Answers secure_rules (state_in self.old) (state_in self.new)
             (answered who (Remove key.now) (done_or result)) }
+        ensures stopped { StaysStopped self.old.stopped self.new.stopped result }
+        ensures stops { StopsOnFault self.old.stopped self.new.stopped result }
+        ensures number { self.new.iv ≡ self.old.iv }
     {
         if self.stopped.is_some() {
             return Err(KvError::Stopped);
@@ -38,8 +42,10 @@ impl<U: Kv, R: Kv> SecureStore<U, R> {
     fn remove_free(&mut self, who: u8, key: &[u8]) -> Result<(), KvError>
         requires running { is_none self.old.stopped ≡ true }
         requires free { self.old.active ≡ None }
-        ensures { Answers secure_rules (state_in self.old) (state_in self.new)
+        ensures answers { Answers secure_rules (state_in self.old) (state_in self.new)
             (answered who (Remove key.now) (done_or result)) }
+        ensures stops { StopsOnFault self.old.stopped self.new.stopped result }
+        ensures number { self.new.iv ≡ self.old.iv }
     {
         let note = in_doubt(self, who, Asking::Remove { key });
         match remove_both(&mut self.primary, &mut self.rollback, who, key) {
@@ -55,8 +61,11 @@ impl<U: Kv, R: Kv> SecureStore<U, R> {
 
     /// Takes all keys away, in the primary store first. It takes no memory.
     pub fn reset(&mut self, who: u8) -> Result<(), KvError>
-        ensures { Answers secure_rules (state_in self.old) (state_in self.new)
+        ensures answers { Answers secure_rules (state_in self.old) (state_in self.new)
             (answered who Reset (done_or result)) }
+        ensures stopped { StaysStopped self.old.stopped self.new.stopped result }
+        ensures stops { StopsOnFault self.old.stopped self.new.stopped result }
+        ensures number { self.new.iv ≡ self.old.iv }
     {
         if self.stopped.is_some() {
             return Err(KvError::Stopped);
@@ -71,8 +80,10 @@ impl<U: Kv, R: Kv> SecureStore<U, R> {
     fn reset_free(&mut self, who: u8) -> Result<(), KvError>
         requires running { is_none self.old.stopped ≡ true }
         requires free { self.old.active ≡ None }
-        ensures { Answers secure_rules (state_in self.old) (state_in self.new)
+        ensures answers { Answers secure_rules (state_in self.old) (state_in self.new)
             (answered who Reset (done_or result)) }
+        ensures stops { StopsOnFault self.old.stopped self.new.stopped result }
+        ensures number { self.new.iv ≡ self.old.iv }
     {
         let note = in_doubt(self, who, Asking::Reset);
         match reset_both(&mut self.primary, &mut self.rollback, who) {

@@ -1,4 +1,3 @@
-use Rattle.std.proofs.Common.{List, ℕ}
 use Rattle.std.specs.Prelude.{is_none}
 use Rattle.kv_model.specs.Kv.{KvState}
 use Rattle.sealed_pair.specs.Active.{own_of}
@@ -13,8 +12,8 @@ pub heal_all-healed-requires : goal.heal_all-healed-requires
 heal_all-healed-requires g c =
     fresh_while c.args.self.now.root c.args.self.now.iv c.args.self.now.active c.requires.free (is_none c.args.self.now.stopped) c.requires.running g.U.Kv.rules_by (g.U.Kv.state c.args.self.now.primary) c.args.self.now.above c.requires.iterators
 
-pub returns : goal.returns
-returns g c =
+pub returns-clause-recovers : goal.returns-clause-recovers
+returns-clause-recovers g c =
     let u = g.U.Kv.state c.args.self.now.primary in
     let u' = g.U.Kv.state c.heal_all-healed.new.primary in
     let r = g.R.Kv.state c.args.self.now.rollback in

@@ -6,8 +6,8 @@ use Rattle.sealed_pair.specs.Active.{taken}
 use Rattle.secure_store.proofs.TakenLemmas.{taken_answers, taken_remove}
 use Rattle.secure_store.proofs.store.SecureStore.remove.Goals as goal
 
-pub returns-else-not-is_key : goal.returns-else-not-is_key
-returns-else-not-is_key g c =
+pub returns-else-not-is_key-clause-answers : goal.returns-else-not-is_key-clause-answers
+returns-else-not-is_key-clause-answers g c =
     let running : is_none c.args.self.now.stopped ≡ true = search rules in
     let good : is_key c.args.key.now ≡ true = search rules in
     let is : taken c.args.self.now.active c.args.who ≡ Some c.in-Err.refusal = search rules in

@@ -6,8 +6,8 @@ use Rattle.sealed_pair.specs.Active.{own_of}
 use Rattle.secure_store.proofs.SettleLemmas.{done_above, done_answers, done_below, not_stopped, refusal_above, refusal_answers, refusal_below, run_free, stopped_by, stops_by, while_stopped}
 use Rattle.secure_store.proofs.store.SecureStore.remove_free.Goals as goal
 
-pub returns-in-Ok : goal.returns-in-Ok
-returns-in-Ok g c =
+pub returns-in-Ok-clause-answers : goal.returns-in-Ok-clause-answers
+returns-in-Ok-clause-answers g c =
     done_answers c.args.self.now.stopped c.requires.running c.args.self.now.root c.args.self.now.iv c.args.self.now.active g.U.Kv.rules_by g.R.Kv.rules_by
     (g.U.Kv.state c.args.self.now.primary) (g.R.Kv.state c.args.self.now.rollback) (g.U.Kv.state c.remove_both.new.primary) (g.R.Kv.state c.remove_both.new.rollback)
     c.args.self.now.above c.args.self.now.below c.args.who (Remove c.args.key.now) c.args.self.now.iv c.args.self.now.active (run_free c.args.self.now.active (ap is_none c.requires.free) c.args.self.now.root c.args.self.now.iv c.args.self.now.iv g.U.Kv.rules_by g.R.Kv.rules_by
@@ -31,8 +31,8 @@ pub invariant_of-self-clause-in_doubt : goal.invariant_of-self-clause-in_doubt
 invariant_of-self-clause-in_doubt g c =
     not_stopped c.args.self.now.stopped c.requires.running _ _ _
 
-pub returns-else-eq : goal.returns-else-eq
-returns-else-eq g c =
+pub returns-else-eq-clause-answers : goal.returns-else-eq-clause-answers
+returns-else-eq-clause-answers g c =
     let other : c.in-Err.refusal ≡ WriteFault → ⊥ = search rules in
     refusal_answers c.args.self.now.stopped c.requires.running c.args.self.now.root c.args.self.now.iv c.args.self.now.active g.U.Kv.rules_by g.R.Kv.rules_by
     (g.U.Kv.state c.args.self.now.primary) (g.R.Kv.state c.args.self.now.rollback) (g.U.Kv.state c.remove_both.new.primary) (g.R.Kv.state c.remove_both.new.rollback)
@@ -59,8 +59,8 @@ pub invariant_of-self-else-eq-clause-in_doubt : goal.invariant_of-self-else-eq-c
 invariant_of-self-else-eq-clause-in_doubt g c =
     not_stopped c.args.self.now.stopped c.requires.running _ _ _
 
-pub returns-then-eq : goal.returns-then-eq
-returns-then-eq g c =
+pub returns-then-eq-clause-answers : goal.returns-then-eq-clause-answers
+returns-then-eq-clause-answers g c =
     let fault : c.in-Err.refusal ≡ WriteFault = search rules in
     stopped_by c.args.self.now.stopped c.requires.running c.args.self.now.root c.args.self.now.iv c.args.self.now.active g.U.Kv.rules_by g.R.Kv.rules_by
     (g.U.Kv.state c.args.self.now.primary) (g.R.Kv.state c.args.self.now.rollback) (g.U.Kv.state c.remove_both.new.primary) (g.R.Kv.state c.remove_both.new.rollback)

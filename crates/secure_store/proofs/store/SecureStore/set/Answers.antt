@@ -1,4 +1,4 @@
-use Rattle.std.proofs.Common.{rules, ◌≡◌, true, false, length, IsTrue}
+use Rattle.std.proofs.Common.{rules, ◌≡◌, true, false, length}
 use Rattle.std.specs.Prelude.{Some, is_none, nat_lt}
 use Rattle.kv_model.specs.Flags.{is_secure_flags}
 use Rattle.kv_model.specs.Keys.{is_key}

@@ -7,8 +7,8 @@ use Rattle.sealed_pair.proofs.EndingLemmas.{ended_by}
 use Rattle.secure_store.proofs.SettleLemmas.{done_above, done_answers, done_below, not_stopped, some_or_none}
 use Rattle.secure_store.proofs.store.SecureStore.set_abort.Goals as goal
 
-pub returns-in-Some : goal.returns-in-Some
-returns-in-Some g c =
+pub returns-in-Some-clause-answers : goal.returns-in-Some-clause-answers
+returns-in-Some-clause-answers g c =
     let none : is_some c.args.self.now.stopped ≡ false = search rules in
     done_answers c.args.self.now.stopped (some_or_none _ c.args.self.now.stopped none) c.args.self.now.root c.args.self.now.iv c.args.self.now.active g.U.Kv.rules_by g.R.Kv.rules_by
     (g.U.Kv.state c.args.self.now.primary) (g.R.Kv.state c.args.self.now.rollback) (g.U.Kv.state c.abort_both.new.primary) (g.R.Kv.state c.abort_both.new.rollback)

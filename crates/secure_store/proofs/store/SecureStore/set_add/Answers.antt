@@ -1,5 +1,5 @@
-use Rattle.std.proofs.Common.{rules, ◌≡◌, ◌∙◌, ℕ, List, Option, Some, true, false, length, ap, refl, sym, subst}
-use Rattle.std.specs.Prelude.{is_none, is_some}
+use Rattle.std.proofs.Common.{rules, ◌≡◌, Some, false, length, refl, sym, subst}
+use Rattle.std.specs.Prelude.{is_some}
 use Rattle.kv_model.specs.declared.error.KvError.TheVariants.{WriteFault}
 use Rattle.kv_model.specs.declared.call.Reply.TheVariants.{Done, Refused}
 use Rattle.kv_model.specs.Kv.{answered}
@@ -11,8 +11,8 @@ use Rattle.secure_store.proofs.AddingLemmas.{begun_in, counted_in, too_long}
 use Rattle.secure_store.proofs.SettleLemmas.{done_above, done_answers, done_below, not_stopped, refusal_above, refusal_answers, refusal_below, some_or_none, stopped_by, stops_by, while_stopped}
 use Rattle.secure_store.proofs.store.SecureStore.set_add.Goals as goal
 
-pub returns-in-Ok : goal.returns-in-Ok
-returns-in-Ok g c =
+pub returns-in-Ok-clause-answers : goal.returns-in-Ok-clause-answers
+returns-in-Ok-clause-answers g c =
     let none : is_some c.args.self.now.stopped ≡ false = search rules in
     done_answers c.args.self.now.stopped (some_or_none _ c.args.self.now.stopped none) c.args.self.now.root c.args.self.now.iv c.args.self.now.active g.U.Kv.rules_by g.R.Kv.rules_by
     (g.U.Kv.state c.args.self.now.primary) (g.R.Kv.state c.args.self.now.rollback) (g.U.Kv.state c.add_both.new.primary) (g.R.Kv.state c.add_both.new.rollback)
@@ -47,8 +47,8 @@ pub invariant_of-self-in-Ok-clause-sealing : goal.invariant_of-self-in-Ok-clause
 invariant_of-self-in-Ok-clause-sealing g c =
     c.in-Ok.ensures.sealing c.args.self.now.root c.args.self.now.iv (begun_in c.args.self.now.root c.args.self.now.iv c.args.self.now.active c.in-Some.active c.in-Some.ensures.0 c.args.self.now.sealing)
 
-pub returns-else-eq : goal.returns-else-eq
-returns-else-eq g c =
+pub returns-else-eq-clause-answers : goal.returns-else-eq-clause-answers
+returns-else-eq-clause-answers g c =
     let none : is_some c.args.self.now.stopped ≡ false = search rules in
     let other : c.in-Err.refusal ≡ WriteFault → ⊥ = search rules in
     refusal_answers c.args.self.now.stopped (some_or_none _ c.args.self.now.stopped none) c.args.self.now.root c.args.self.now.iv c.args.self.now.active g.U.Kv.rules_by g.R.Kv.rules_by
@@ -86,8 +86,8 @@ pub invariant_of-self-else-eq-clause-sealing : goal.invariant_of-self-else-eq-cl
 invariant_of-self-else-eq-clause-sealing g c =
     subst (IsActive c.args.self.now.root c.args.self.now.iv) (sym c.in-Some.ensures.1.0) tt
 
-pub returns-then-eq : goal.returns-then-eq
-returns-then-eq g c =
+pub returns-then-eq-clause-answers : goal.returns-then-eq-clause-answers
+returns-then-eq-clause-answers g c =
     let none : is_some c.args.self.now.stopped ≡ false = search rules in
     let fault : c.in-Err.refusal ≡ WriteFault = search rules in
     stopped_by c.args.self.now.stopped (some_or_none _ c.args.self.now.stopped none) c.args.self.now.root c.args.self.now.iv c.args.self.now.active g.U.Kv.rules_by g.R.Kv.rules_by
@@ -123,8 +123,8 @@ pub add_both-requires-clause-counted : goal.add_both-requires-clause-counted
 add_both-requires-clause-counted g c =
     counted_in c.args.self.now.root c.args.self.now.iv c.args.self.now.active c.in-Some.active c.in-Some.ensures.0 c.args.self.now.sealing
 
-pub returns-then-not-may_take : goal.returns-then-not-may_take
-returns-then-not-may_take g c =
+pub returns-then-not-may_take-clause-answers : goal.returns-then-not-may_take-clause-answers
+returns-then-not-may_take-clause-answers g c =
     let none : is_some c.args.self.now.stopped ≡ false = search rules in
     let over : may_take c.in-Some.active.begun (length c.args.value.now) ≡ false = search rules in
     too_long c.args.self.now.stopped (some_or_none _ c.args.self.now.stopped none) c.args.self.now.root c.args.self.now.iv c.args.self.now.active c.in-Some.active c.in-Some.ensures.0 (g.U.Kv.state c.args.self.now.primary) (g.R.Kv.state c.args.self.now.rollback) c.args.who c.in-Some.ensures.1.1 c.args.value.now over c.args.self.now.sealing

@@ -1,4 +1,4 @@
-use Rattle.std.proofs.Common.{rules, ◌≡◌, ◌∙◌, ℕ, Option, Some, false, refl, sym, subst}
+use Rattle.std.proofs.Common.{rules, ◌≡◌, false, refl, sym, subst}
 use Rattle.std.specs.Prelude.{is_some}
 use Rattle.kv_model.specs.declared.error.KvError.TheVariants.{WriteFault}
 use Rattle.kv_model.specs.declared.call.Reply.TheVariants.{Done, Refused}
@@ -10,8 +10,8 @@ use Rattle.secure_store.proofs.AddingLemmas.{begun_in, counted_in}
 use Rattle.secure_store.proofs.SettleLemmas.{done_above, done_answers, done_below, not_stopped, refusal_above, refusal_answers, refusal_below, some_or_none, stopped_by, stops_by, while_stopped}
 use Rattle.secure_store.proofs.store.SecureStore.set_finish.Goals as goal
 
-pub returns-in-Ok : goal.returns-in-Ok
-returns-in-Ok g c =
+pub returns-in-Ok-clause-answers : goal.returns-in-Ok-clause-answers
+returns-in-Ok-clause-answers g c =
     let none : is_some c.args.self.now.stopped ≡ false = search rules in
     done_answers c.args.self.now.stopped (some_or_none _ c.args.self.now.stopped none) c.args.self.now.root c.args.self.now.iv c.args.self.now.active g.U.Kv.rules_by g.R.Kv.rules_by
     (g.U.Kv.state c.args.self.now.primary) (g.R.Kv.state c.args.self.now.rollback) (g.U.Kv.state c.finish_both.new.primary) (g.R.Kv.state c.finish_both.new.rollback)
@@ -42,8 +42,8 @@ invariant_of-self-in-Ok-clause-in_doubt g c =
     let none : is_some c.args.self.now.stopped ≡ false = search rules in
     not_stopped c.args.self.now.stopped (some_or_none _ c.args.self.now.stopped none) _ _ _
 
-pub returns-else-eq : goal.returns-else-eq
-returns-else-eq g c =
+pub returns-else-eq-clause-answers : goal.returns-else-eq-clause-answers
+returns-else-eq-clause-answers g c =
     let none : is_some c.args.self.now.stopped ≡ false = search rules in
     let other : c.in-Err.refusal ≡ WriteFault → ⊥ = search rules in
     refusal_answers c.args.self.now.stopped (some_or_none _ c.args.self.now.stopped none) c.args.self.now.root c.args.self.now.iv c.args.self.now.active g.U.Kv.rules_by g.R.Kv.rules_by
@@ -77,8 +77,8 @@ invariant_of-self-else-eq-clause-in_doubt g c =
     let none : is_some c.args.self.now.stopped ≡ false = search rules in
     not_stopped c.args.self.now.stopped (some_or_none _ c.args.self.now.stopped none) _ _ _
 
-pub returns-then-eq : goal.returns-then-eq
-returns-then-eq g c =
+pub returns-then-eq-clause-answers : goal.returns-then-eq-clause-answers
+returns-then-eq-clause-answers g c =
     let none : is_some c.args.self.now.stopped ≡ false = search rules in
     let fault : c.in-Err.refusal ≡ WriteFault = search rules in
     stopped_by c.args.self.now.stopped (some_or_none _ c.args.self.now.stopped none) c.args.self.now.root c.args.self.now.iv c.args.self.now.active g.U.Kv.rules_by g.R.Kv.rules_by
