@@ -6,7 +6,7 @@ use mathlib.Core.Bool.{false≢true}
 use Rattle.base_core.specs.declared.no_memory.NoMemory.{NoMemory}
 use Rattle.base_core.specs.Sizes.{master_size}
 use Rattle.flash_core.specs.declared.geometry.Geometry.{Geometry}
-use Rattle.flash_core.specs.Images.{IsErased}
+use Rattle.flash_core.specs.Images.{IsErased, part}
 use Rattle.flash_core.specs.Runs.{Done}
 use Rattle.flash_core.specs.Sizes.{IsValid, area_size, size_of}
 use Rattle.flash_core.specs.State.{DeviceCall, after_of, before_of}
@@ -55,6 +55,7 @@ use Rattle.session_core.specs.Telling.{HasLog, IsLogIn, TellsLog, over_one}
 use Rattle.session_core.specs.Views.{primary_in, state_in}
 use Rattle.session_core.proofs.ChanceLemmas.{chance_failed, chance_in_doubt}
 use Rattle.session_core.proofs.MountLemmas.{constants_kept, told_map}
+use Rattle.session_core.proofs.StrayLemmas.{no_stray}
 use Rattle.tdb_mount.specs.Format.{Leaves, LeavesBy}
 use Rattle.kv_cli.specs.declared.run.RunEnd.{RunEnd}
 use Rattle.kv_cli.specs.declared.run.RunEnd.TheVariants as end
@@ -104,6 +105,7 @@ module _ (g h : Geometry) (prog : g.prog ≡ h.prog) (area : area_size g ≡ are
     version = is.version;
     records = is.records;
     clean = subst (λ (a : ℕ). IsTrue log.is_clean ↔ IsErased image is.contents.end ((log.active * a + a) - is.contents.end)) area is.clean;
+    other = subst (λ (a : ℕ). log.other ≡ part image ((1 - log.active) * a) a) area is.other;
   }
 
   pub mounts_alike : (m : FlaggedMap) → Mounts g image m → Mounts h image m
@@ -262,6 +264,9 @@ module _ (asked : Asked) (image : List ℕ) (lines : List Line) (entries : List 
   area : area_size g ≡ area_size asked.geometry
   area = same_area g asked.geometry (valid_in last) valid prog (sym (ap (λ (c : Constants). c.room) same))
 
+  opened_log : IsLogIn asked.geometry (primary_in first).image opened.log
+  opened_log = subst (λ (o : Geometry). IsLogIn o (primary_in first).image opened.log) opened.geometry opened.holds.is
+
   -- all lines were run, and the session that they leave gives this image
   replay_of : (written : List ℕ) → (state_in last).known.state ≡ Some after → InOrder entries lines → runs.IsImageOf last written
       → (asked.cut ≡ None → cuts_in (acts_of lines) ≡ 0 → GrowsBy (state_in first) (primary_in last) (state_in last) entries) → IsReplayOf asked image lines entries written
@@ -279,15 +284,17 @@ module _ (asked : Asked) (image : List ℕ) (lines : List Line) (entries : List 
       opened = (primary_in first).image;
       leaves = opened.leaves;
       log = opened.log;
-      holds = subst (λ (o : Geometry). IsLogIn o (primary_in first).image opened.log) opened.geometry opened.holds.is;
+      holds = opened_log;
       grows = λ wants.
           let before : Told = record { state = first_state opened.map; log = opened.log } in
           let grew : HasLog (primary_in last) (state_in last) (grown opened.log (writes None entries)) =
           growing none uncut before (record { state = opened.told; log = opened.holds.told }) refl
           (subst (λ (c : Constants). WantsNoCollection c opened.log entries) (sym opened.constants) wants) in
-          subst (λ (l : List ℕ). IsLogIn asked.geometry l (grown opened.log (writes None entries)))
+          no_stray asked.geometry (primary_in first).image written (sized_in first ∙ ap size_of opened.geometry) (left.sized ∙ same_size g asked.geometry area)
+          opened.log (grown opened.log (writes None entries)) opened_log
+          (subst (λ (l : List ℕ). IsLogIn asked.geometry l (grown opened.log (writes None entries)))
           (sym (left.stays (grown opened.log (writes None entries)) grew.is))
-          (log_alike g asked.geometry prog area (primary_in last).image (grown opened.log (writes None entries)) grew.is);
+          (log_alike g asked.geometry prog area (primary_in last).image (grown opened.log (writes None entries)) grew.is)) refl refl refl;
     };
   }
 

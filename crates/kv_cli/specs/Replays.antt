@@ -23,7 +23,7 @@ use Rattle.script_core.specs.LineOrder.{InOrder}
 use Rattle.session_core.specs.Growing.{WantsNoCollection, grown}
 use Rattle.session_core.specs.Power.{ShowsCuts, acts_of, armed_cuts, cuts_in, write_faults_in}
 use Rattle.session_core.specs.Replaying.{IsMountBehind}
-use Rattle.session_core.specs.Telling.{IsLogIn, over_one}
+use Rattle.session_core.specs.Telling.{HasNoStray, IsLogIn, over_one}
 use Rattle.tdb_mount.specs.Format.{Leaves}
 use Rattle.kv_cli.specs.Asked.{Asked, constants_of, power_by}
 
@@ -53,13 +53,15 @@ pub record IsImageOf (asked : Asked) (last : StoreState) (written : List ℕ) : 
 
 -- The opened image is the one that was read, formatted where no area of it is valid. Where the log in it wants no
 -- collection, the written image holds that log with the records of the history behind it, in the same area and with the
--- same version.
+-- same version, and no byte beside it is a stray one: behind the records each is 0xFF, and outside of that area each is
+-- as in the opened image.
 pub record Grows (asked : Asked) (image : List ℕ) (entries : List Entry) (written : List ℕ) : Type 0 where
   pub opened : List ℕ
   pub leaves : Leaves asked.geometry image opened Done
   pub log : Log
   pub holds : IsLogIn asked.geometry opened log
-  pub grows : WantsNoCollection (constants_of asked) log entries → IsLogIn asked.geometry written (grown log (writes None entries))
+  pub grows : WantsNoCollection (constants_of asked) log entries
+      → HasNoStray asked.geometry opened written (grown log (writes None entries))
 
 -- All lines were run, each once and in order, and this is the image that they leave. Where no power was cut, its log grew
 -- by the records of the history.

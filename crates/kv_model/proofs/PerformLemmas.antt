@@ -221,41 +221,49 @@ module _ (rules : Rules) (are : AreRules rules) (state : StoreState) (who : ℕ)
 
 -- ---- whole calls
 
--- such an operation leaves the log, whatever it answers
+-- a log that stands follows each refusal
+pub refused_follows : (constants : Constants) (state : StoreState) (log : Log) (operation : Operation) (e : KvError) → LogFollows constants state log log operation (Refused e)
+refused_follows constants state log operation error.ReadFault = refl
+refused_follows constants state log operation (error.Corrupt stored computed) = refl
+refused_follows constants state log operation e = refl
+
+-- such an operation leaves the log where it is done
 pub record KeepsLog (operation : Operation) : Type 0 where
-  pub to : (constants : Constants) (state : StoreState) (old new : Log) (reply : Reply) → LogFollows constants state old new operation reply → new ≡ old
-  pub back : (constants : Constants) (state : StoreState) (old new : Log) (reply : Reply) → new ≡ old → LogFollows constants state old new operation reply
+  pub to : (constants : Constants) (state : StoreState) (old new : Log) → LogFollows constants state old new operation Done → new ≡ old
+  pub back : (constants : Constants) (state : StoreState) (old new : Log) → new ≡ old → LogFollows constants state old new operation Done
 
-log_to : (operation : Operation) → ((constants : Constants) (state : StoreState) (old new : Log) → LogFollows constants state old new operation Done → new ≡ old)
-    → (constants : Constants) (state : StoreState) (old new : Log) (reply : Reply) → LogFollows constants state old new operation reply → new ≡ old
-log_to operation done constants state old new Done follows = done constants state old new follows
-log_to operation done constants state old new (Value l) follows = follows
-log_to operation done constants state old new (Facts n flags) follows = follows
-log_to operation done constants state old new (Found l) follows = follows
-log_to operation done constants state old new End follows = follows
-log_to operation done constants state old new (Refused e) follows = follows
+-- it leaves it whole by every answer of the rules
+pub log_stands : (operation : Operation) → KeepsLog operation → (constants : Constants) (state : StoreState) (old new : Log) (reply : Reply) → kind_of reply ≡ Ruled
+    → LogFollows constants state old new operation reply → new ≡ old
+log_stands operation keeps constants state old new Done ruled follows = keeps.to constants state old new follows
+log_stands operation keeps constants state old new (Value l) ruled follows = follows
+log_stands operation keeps constants state old new (Facts n flags) ruled follows = follows
+log_stands operation keeps constants state old new (Found l) ruled follows = follows
+log_stands operation keeps constants state old new End ruled follows = follows
+log_stands operation keeps constants state old new (Refused error.ReadFault) ruled follows = let is : FailedRead ≡ Ruled = ruled in absurd (cc)
+log_stands operation keeps constants state old new (Refused (error.Corrupt stored computed)) ruled follows = let is : Mismatched ≡ Ruled = ruled in absurd (cc)
+log_stands operation keeps constants state old new (Refused e) ruled follows = follows
 
-log_back : (operation : Operation) → ((constants : Constants) (state : StoreState) (old new : Log) → new ≡ old → LogFollows constants state old new operation Done)
-    → (constants : Constants) (state : StoreState) (old new : Log) (reply : Reply) → new ≡ old → LogFollows constants state old new operation reply
-log_back operation done constants state old new Done same = done constants state old new same
-log_back operation done constants state old new (Value l) same = same
-log_back operation done constants state old new (Facts n flags) same = same
-log_back operation done constants state old new (Found l) same = same
-log_back operation done constants state old new End same = same
-log_back operation done constants state old new (Refused e) same = same
-
-log_of : (operation : Operation) → ((constants : Constants) (state : StoreState) (old new : Log) → LogFollows constants state old new operation Done → new ≡ old)
-    → ((constants : Constants) (state : StoreState) (old new : Log) → new ≡ old → LogFollows constants state old new operation Done) → KeepsLog operation
-log_of operation to back = record { to = log_to operation to; back = log_back operation back }
+-- what one such operation does to the log behind another call that left it, the other does too
+log_carried : (one other : Operation) → KeepsLog one → KeepsLog other → (first second : Constants) (state : StoreState) (old mid new : Log) (reply : Reply) → mid ≡ old
+    → LogFollows second state mid new one reply → LogFollows first state old new other reply
+log_carried one other to back first second state old mid new Done same follows = back.back first state old new (to.to second state mid new follows ∙ same)
+log_carried one other to back first second state old mid new (Value l) same follows = follows ∙ same
+log_carried one other to back first second state old mid new (Facts n flags) same follows = follows ∙ same
+log_carried one other to back first second state old mid new (Found l) same follows = follows ∙ same
+log_carried one other to back first second state old mid new End same follows = follows ∙ same
+log_carried one other to back first second state old mid new (Refused error.ReadFault) same follows = follows ∙ (λ i. record (same i) { other = new.other })
+log_carried one other to back first second state old mid new (Refused (error.Corrupt stored computed)) same follows = follows ∙ (λ i. record (same i) { other = new.other })
+log_carried one other to back first second state old mid new (Refused e) same follows = follows ∙ same
 
 pub part_log : (key : List ℕ) (offset count : ℕ) → KeepsLog (Part key offset count)
-part_log key offset count = log_of (Part key offset count) (λ constants state old new same. same) (λ constants state old new same. same)
+part_log key offset count = record { to = λ constants state old new same. same; back = λ constants state old new same. same }
 
 pub get_log : (key : List ℕ) → KeepsLog (Get key)
-get_log key = log_of (Get key) (λ constants state old new same. same) (λ constants state old new same. same)
+get_log key = record { to = λ constants state old new same. same; back = λ constants state old new same. same }
 
 pub info_log : (key : List ℕ) → KeepsLog (Info key)
-info_log key = log_of (Info key) (λ constants state old new same. same) (λ constants state old new same. same)
+info_log key = record { to = λ constants state old new same. same; back = λ constants state old new same. same }
 
 some_of : {X : Type 0} (o : Option X) → is_some o ≡ true → (x : X) × (o ≡ Some x)
 some_of None is = absurd (true≢false (sym is))
@@ -377,7 +385,7 @@ module _ (rules_by : Constants → Rules) (are_by : (constants : Constants) → 
         let told = told_by (rules_by constants) (are_by constants) before who key there.0 size flags (first.leads before is there.0 there.1) in
         let same : mid_log.0 ≡ log = first.log before is log log_is mid_log.0 mid_log.1 in
         let steps = second.log before (there.1 ∙ ap (λ (s : StoreState). Some s) told.same) mid_log.0 mid_log.1 last last_is in
-        unless (kind_of reply) reads (λ follows. log_other.back constants before log last reply (log_one.to mid.known.constants before mid_log.0 last reply follows ∙ same)) steps;
+        unless (kind_of reply) reads (log_carried one other log_one log_other constants mid.known.constants before log mid_log.0 last reply same) steps;
     cuts = λ tells before is.
         let constants = old.known.constants in
         let rules = rules_by constants in

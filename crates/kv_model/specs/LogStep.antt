@@ -3,15 +3,16 @@ use Rattle.std.specs.Prelude.{◌≡◌, ◌≢◌, ℕ, Bool, true, not, ◌||�
 use Rattle.std.specs.Option.{IfSome}
 use Rattle.std.specs.FinMap as map
 use Rattle.base_core.specs.Sizes.{record_size}
+use Rattle.kv_model.specs.declared.error.KvError.TheVariants.{Corrupt, ReadFault}
 use Rattle.kv_model.specs.declared.call.Reply.{Reply}
-use Rattle.kv_model.specs.declared.call.Reply.TheVariants.{Done}
+use Rattle.kv_model.specs.declared.call.Reply.TheVariants.{Done, Refused}
 use Rattle.kv_model.specs.Flags.{remove_flags}
 use Rattle.kv_model.specs.FlaggedMap.{FlaggedMap}
 use Rattle.kv_model.specs.KeyOrder.{is_below}
 use Rattle.kv_model.specs.Constants.{Constants}
 use Rattle.kv_model.specs.Write.{Write, map_of}
 use Rattle.kv_model.specs.StoreState.{StoreState, OpenSet}
-use Rattle.kv_model.specs.Operations.{Operation, Set, Remove, Start, Add, Finish, Reset}
+use Rattle.kv_model.specs.Operations.{Operation, Set, Remove, RemoveStart, Start, Add, Finish, Reset}
 use Rattle.kv_model.specs.Opening.{Log}
 
 -- the bytes that records take
@@ -40,10 +41,15 @@ pub record AreLive (hash_bits : ℕ) (m : FlaggedMap) (records : List Write) : T
 abbrev pub appended : Log → Write → Log
 appended log r = record log { records = log.records ++ r ∷ []; is_clean = true }
 
+-- the active area's part of a log stands, whatever the other area has
+abbrev pub SameButOther : Log → Log → Type 0
+SameButOther old new = new ≡ record old { other = new.other }
+
 -- The other area is active, with the version raised by one: it has the live records of a map, and behind them these.
+-- The area that was active is the other now, and may have any bytes.
 abbrev pub IsCollected : ℕ → FlaggedMap → List Write → Log → Log → Type 0
 IsCollected hash_bits m behind old new = (live : List Write) × AreLive hash_bits m live
-    × (new ≡ record { active = 1 - old.active; version = (old.version + 1) % 2 ^ 16; records = live ++ behind; is_clean = true })
+    × (new ≡ record { active = 1 - old.active; version = (old.version + 1) % 2 ^ 16; records = live ++ behind; is_clean = true; other = new.other })
 
 abbrev pub removal : List ℕ → Write
 removal key = record { flags = remove_flags; key = key; value = [] }
@@ -75,15 +81,20 @@ module _ (constants : Constants) (state : StoreState) (old new : Log) where
       (IsCollected constants.hash_bits state.primary (r ∷ []) old new)
       (new ≡ appended old r)
   LogSteps (Remove key) = Removes key
+  -- where the finish of a remove is to collect, the live records are copied as it is begun
+  LogSteps (RemoveStart key) = MatchBool (collects constants old key 0) (SameButOther old new) (new ≡ old)
   LogSteps (Start key size flags) = MatchBool (collects constants old key size)
       (IsCollected constants.hash_bits state.primary [] old new)
       (new ≡ old)
   LogSteps (Add value) = IfSome state.open_set (λ (set : OpenSet). new ≡ record old { is_clean = fed_clean set (length value) })
   LogSteps Finish = IfSome state.open_set Finishes
-  LogSteps Reset = new ≡ record { active = 1 - old.active; version = (old.version + 1) % 2 ^ 16; records = []; is_clean = true }
+  LogSteps Reset = new ≡ record { active = 1 - old.active; version = (old.version + 1) % 2 ^ 16; records = []; is_clean = true; other = new.other }
   LogSteps operation = new ≡ old
 
-  -- what a call does with this reply, where no write failed: nothing where it is refused or gives something
+  -- What a call does with this reply, where no write failed: nothing where it is refused or gives something. A read that
+  -- failed and a record that doesn't match may end a collection, which has begun in the other area.
   abbrev pub LogFollows : Operation → Reply → Type 0
   LogFollows operation Done = LogSteps operation
+  LogFollows operation (Refused ReadFault) = SameButOther old new
+  LogFollows operation (Refused (Corrupt stored computed)) = SameButOther old new
   LogFollows operation reply = new ≡ old

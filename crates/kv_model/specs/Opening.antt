@@ -11,12 +11,14 @@ use Rattle.kv_model.specs.Constants.{Secure, Constants}
 use Rattle.kv_model.specs.StoreState.{StoreState, OpenSet, Position, Iterators, Doubt}
 use Rattle.kv_model.specs.Operations.{Operation, Get, Part, Info, Set, Remove, RemoveStart, Start, Add, Finish, Abort, OpenIterator, Next, CloseIterator, Reset}
 
--- the log of a plain store: its active area and that area's version, its records, and whether its tail is erased
+-- the log of a plain store: its active area and that area's version, its records, whether its tail is erased, and the
+-- bytes of the other area
 pub record Log : Type 0 where
   pub active : ℕ
   pub version : ℕ
   pub records : List Write
   pub is_clean : Bool
+  pub other : List ℕ
 
 pub record Opening : Type 0 where
   pub constants : Constants
@@ -151,8 +153,9 @@ write_code = code_by (ℕ × (List ℕ × List ℕ)) (coded× coded_ℕ (coded×
     (λ t. record { flags = t.0; key = t.1.0; value = t.1.1 }) (λ _. refl)
 
 abbrev pub log_code : Coded Log
-log_code = code_by ((ℕ × ℕ) × (List Write × Bool)) (coded× (coded× coded_ℕ coded_ℕ) (coded× (coded_list write_code) coded_bool))
-    (λ l. ((l.active, l.version), (l.records, l.is_clean))) (λ t. record { active = t.0.0; version = t.0.1; records = t.1.0; is_clean = t.1.1 }) (λ _. refl)
+log_code = code_by ((ℕ × ℕ) × (List Write × (Bool × List ℕ))) (coded× (coded× coded_ℕ coded_ℕ) (coded× (coded_list write_code) (coded× coded_bool bytes_code)))
+    (λ l. ((l.active, l.version), (l.records, (l.is_clean, l.other))))
+    (λ t. record { active = t.0.0; version = t.0.1; records = t.1.0; is_clean = t.1.1.0; other = t.1.1.1 }) (λ _. refl)
 
 abbrev pub opening_code : Coded Opening
 opening_code = code_by ((Constants × (Option StoreState × Option Log)) × ((ℕ × ℕ) × ((Bool × Bool) × List (List ℕ))))

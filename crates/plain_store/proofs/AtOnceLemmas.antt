@@ -14,7 +14,7 @@ use Rattle.kv_model.specs.Checks.{may_fail_writing}
 use Rattle.kv_model.specs.Constants.{Constants}
 use Rattle.kv_model.specs.FlaggedMap.{FlaggedMap}
 use Rattle.kv_model.specs.Kv.{Answers, answered}
-use Rattle.kv_model.specs.LogStep.{IsCollected, LogSteps, appended, collects}
+use Rattle.kv_model.specs.LogStep.{IsCollected, LogSteps, SameButOther, appended, collects}
 use Rattle.kv_model.specs.Opening.{Log}
 use Rattle.kv_model.specs.Operations.{Set}
 use Rattle.kv_model.specs.PlainStep.{plain_checks, plain_rules, plain_step}
@@ -67,8 +67,8 @@ module _ (a b c : LogView) (after : FlaggedMap → FlaggedMap) (First Second Thi
         (second.map_is between.0 between.1 left told_left);
     log_is = λ image told left told_left.
         let between = told_after first.runs.kept told in
-        by_two ending (Second (log_in b.device.geometry b.log between.0) (log_in b.device.geometry c.log left)) (log_in b.device.geometry c.log left ≡ log_in b.device.geometry b.log between.0)
-        (Third (log_in a.device.geometry a.log image) (log_in a.device.geometry c.log left)) (log_in a.device.geometry c.log left ≡ log_in a.device.geometry a.log image) ends
+        by_two ending (Second (log_in b.device.geometry b.log between.0) (log_in b.device.geometry c.log left)) (SameButOther (log_in b.device.geometry b.log between.0) (log_in b.device.geometry c.log left))
+        (Third (log_in a.device.geometry a.log image) (log_in a.device.geometry c.log left)) (SameButOther (log_in a.device.geometry a.log image) (log_in a.device.geometry c.log left)) ends
         (λ is. steps (log_in a.device.geometry a.log image) (log_in a.device.geometry b.log between.0) (log_in a.device.geometry c.log left) (first.log_is image told between.0 between.1)
         (subst (λ (g : Geometry). Second (log_in g b.log between.0) (log_in g c.log left)) first.runs.kept.geometry is))
         (second.log_is between.0 between.1 left told_left);
@@ -92,7 +92,7 @@ module _ (v w x : LogView) (ending : Ending) (ends : (ending ≡ Done) ⊎ (endi
         made.0,
         made.1,
         is ∙ ap (λ (l : Log). appended l r) made.2
-            ∙ λ i. record { active = 1 - a.active; version = (a.version + 1) % 2 ^ 16; records = append-nil made.0 i ++ r ∷ []; is_clean = true },
+            ∙ λ i. record { active = 1 - a.active; version = (a.version + 1) % 2 ^ 16; records = append-nil made.0 i ++ r ∷ []; is_clean = true; other = (sym is i).other },
       )
       by_test false made = is ∙ ap (λ (l : Log). appended l r) made
 

@@ -21,6 +21,7 @@ use Rattle.kv_model.specs.Operations.{Operation, Remove, RemoveStart}
 use Rattle.kv_model.specs.PlainStep.{plain_checks, plain_effect, plain_rules, plain_step, remove_checks}
 use Rattle.kv_model.specs.Rules.{Outcome, after_refusal, refused_or, refuses}
 use Rattle.kv_model.specs.StoreState.{OpenSet, StoreState}
+use Rattle.kv_model.proofs.PerformLemmas.{refused_follows}
 use Rattle.record_core.specs.Endings.{kv_ending}
 use Rattle.tdb_read.specs.Reads.{IsReadRefusal, map_in}
 use Rattle.tdb_read.specs.States.{constants_of, kv_state, log_in, state_in}
@@ -90,7 +91,7 @@ module _ (old new : LogView) (read : HasOnlyRead old new) (who : ℕ) (key : Lis
       (λ image told.
       refusal_step (constants_of old.device.geometry old.log) (before image) who key operation removal refl e (first image told)
       ∙ (λ i. refuses (state_in old.device.geometry (record old.log { iterators = sym (ap (λ (l : LogPart). l.iterators) read.log) i }) None image) e))
-      (λ s l. refl)
+      (λ s l. refused_follows (constants_of old.device.geometry old.log) s l operation e)
 
   look_refused : (e : KvError) → IsRemoveRefusal old new key e → Looks e
   look_refused e (inl is) = subst Looks (sym is.0)

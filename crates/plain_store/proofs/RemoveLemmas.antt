@@ -12,6 +12,7 @@ use Rattle.flash_core.proofs.KeptLaws.{told_before}
 use Rattle.kv_model.specs.FlaggedMap.{Stored}
 use Rattle.kv_model.specs.Flags.{is_write_once}
 use Rattle.kv_model.specs.Keys.{is_key}
+use Rattle.kv_model.specs.LogStep.{SameButOther, removal}
 use Rattle.kv_model.specs.Opening.{Log}
 use Rattle.kv_model.specs.Write.{Write}
 use Rattle.record_core.specs.declared.header.Header.{Header}
@@ -25,10 +26,13 @@ use Rattle.tdb_read.specs.Reads.{GivesHeader, HasAt, IsFound, IsLocated, map_in,
 use Rattle.tdb_read.specs.Views.{HasOnlyRead, IsLogOf, IsReady, IsSafe, LogPart, LogView, area_in, records_in}
 use Rattle.tdb_read.proofs.TableLemmas.{located, told_table}
 use Rattle.tdb_write.specs.Changes.{Changes, LogStands, unchanged}
-use Rattle.tdb_write.specs.Copying.{IsPrepared, SameButSpare}
+use Rattle.tdb_write.specs.Copying.{IsPrepared, IsRenewed, SameButSpare, without}
+use Rattle.tdb_write.specs.Writing.{IsAppended}
+use Rattle.tdb_write.proofs.CollectedLemmas.{renewed_then, step_more}
 use Rattle.tdb_write.proofs.StayLemmas.{KeysStay, keys_stay, place_stays}
 use Rattle.plain_store.specs.Begun.{IsRemoveBegun, must_collect}
-use Rattle.plain_store.specs.Removing.{IsMissing, IsThere}
+use Rattle.plain_store.specs.Removing.{IsMissing, IsThere, Readies, RemovesFrom}
+use Rattle.plain_store.proofs.FeedLemmas.{nothing_done}
 
 -- ---- what is found
 
@@ -85,7 +89,7 @@ there_since old new key once read is = λ image told.
 
 -- ---- what copies leave
 
-module _ (old new : LogView) (ready : IsReady old) (changes : Changes old new unchanged LogStands Done) (same : SameButSpare old.log new.log) where
+module _ (old new : LogView) (ready : IsReady old) (changes : Changes old new unchanged SameButOther Done) (same : SameButSpare old.log new.log) where
   abbrev g : Geometry
   g = old.device.geometry
 
@@ -137,3 +141,30 @@ module _ (old new : LogView) (ready : IsReady old) (changes : Changes old new un
 -- a remove that collects nothing
 pub uncopied_begun : (v : LogView) (key : List ℕ) (place : Place) → IsTrue (is_key key) → IsFound v key place → place.found ≡ true → must_collect v key ≡ false → IsRemoveBegun v key place None
 uncopied_begun v key place valid found there short = record { valid = valid; found = found; there = there; readied = short }
+
+-- ---- what readying a remove does to the log
+
+pub readies_none : (v : LogView) → IsReady v → (key : List ℕ) → must_collect v key ≡ false → Changes v v unchanged (Readies v key) Done
+readies_none v ready key short = step_more v v LogStands (Readies v key) unchanged Done
+    (λ a b is. subst (λ (c : Bool). MatchBool c (SameButOther a b) (LogStands a b)) (sym short) is) (nothing_done v ready)
+
+pub readies_copies : (v w : LogView) (key : List ℕ) → must_collect v key ≡ true → Changes v w unchanged SameButOther Done → Changes v w unchanged (Readies v key) Done
+readies_copies v w key collects changes = step_more v w SameButOther (Readies v key) unchanged Done
+    (λ a b is. subst (λ (c : Bool). MatchBool c (SameButOther a b) (LogStands a b)) (sym collects) is) changes
+
+-- the other area alone may have changed
+pub readied_stays : (v : LogView) (key : List ℕ) (a b : Log) → Readies v key a b → SameButOther a b
+readied_stays v key a b = by_test (must_collect v key)
+  where
+    by_test : (t : Bool) → MatchBool t (SameButOther a b) (LogStands a b) → SameButOther a b
+    by_test true same = same
+    by_test false stands = stands ∙ (λ i. record a { other = (sym stands i).other })
+
+-- a remove that was readied and then finished
+pub readied_then : (v : LogView) (key : List ℕ) (a b c : Log) → Readies v key a b → RemovesFrom v key b c → RemovesFrom v key a c
+readied_then v key a b c = by_test (must_collect v key)
+  where
+    by_test : (t : Bool) → MatchBool t (SameButOther a b) (LogStands a b) → MatchBool t (IsRenewed v.log.hash_bits (without key) b c) (IsAppended (removal key) b c)
+        → MatchBool t (IsRenewed v.log.hash_bits (without key) a c) (IsAppended (removal key) a c)
+    by_test true same step = renewed_then v.log.hash_bits (without key) a b c same step
+    by_test false stands step = subst (λ (l : Log). IsAppended (removal key) l c) stands step

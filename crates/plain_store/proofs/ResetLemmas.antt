@@ -47,7 +47,7 @@ no_live [] is = refl
 no_live (r ∷ rs) is = absurd (omega (arith, live_spent 1 0 map.empty (r ∷ rs) is, used-empty 1, extent-positive 1 (omega arith) r))
 
 emptied_log : (constants : Constants) (state : StoreState) (a b : Log) → IsEmptied a b → LogSteps constants state a b Reset
-emptied_log constants state a b is = subst (λ (live : List Write). b ≡ record { active = 1 - a.active; version = (a.version + 1) % 2 ^ 16; records = live ++ []; is_clean = true }) (no_live is.0 is.1) is.2
+emptied_log constants state a b is = subst (λ (live : List Write). b ≡ record { active = 1 - a.active; version = (a.version + 1) % 2 ^ 16; records = live ++ []; is_clean = true; other = b.other }) (no_live is.0 is.1) is.2
 
 -- ---- a reset, over a whole store
 

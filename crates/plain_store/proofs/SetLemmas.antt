@@ -23,6 +23,7 @@ use Rattle.kv_model.specs.Rows.{owns_set, set_owner}
 use Rattle.kv_model.specs.Rules.{after_refusal, refused_or, refuses}
 use Rattle.kv_model.specs.Sizes.{room_of, used}
 use Rattle.kv_model.specs.StoreState.{OpenSet, StoreState}
+use Rattle.kv_model.proofs.PerformLemmas.{refused_follows}
 use Rattle.tdb_read.specs.Reads.{map_in}
 use Rattle.tdb_read.specs.States.{constants_of, kv_state, state_in}
 use Rattle.tdb_read.specs.Views.{HasOnlyRead, HasRead, LogPart, LogView}
@@ -154,7 +155,7 @@ module _ (v w : LogView) (looked : HasLookedUp v w) where
         (λ image told.
         let s : StoreState = state_in v.device.geometry v.log None image in
         (λ i. refused_or (plain_rules (constants_of v.device.geometry v.log)) s who operation ((ap first_refusal (checks_are image) ∙ refuses_so image told) i)) ∙ (λ i. refuses (stays s e i) e))
-        (λ s l. refl))
+        (λ s l. refused_follows (constants_of v.device.geometry v.log) s l operation e))
 
     pub look_refused : (e : KvError) → IsSetRefusal v w key size e → Is e
     look_refused e (inl (inl is)) = subst Is (sym is.0) (by_rules WriteProtected refl
@@ -185,4 +186,4 @@ module _ (v : LogView) (a : Option ActiveSet) (note : Option StoreState) (runs :
       (λ image told.
       let s : StoreState = state_in v.device.geometry v.log (set_in a) image in
       (λ i. refused_or (plain_rules (constants_of v.device.geometry v.log)) s who operation ((ap first_refusal (checks_are image (set_in a)) ∙ early v image who operation key size flags a e is) i)) ∙ (λ i. refuses (stays s e i) e))
-      (λ b l. refl)
+      (λ b l. refused_follows (constants_of v.device.geometry v.log) b l operation e)

@@ -19,7 +19,7 @@ use Rattle.kv_model.specs.Checks.{may_fail_reading, may_fail_writing}
 use Rattle.kv_model.specs.Constants.{Constants}
 use Rattle.kv_model.specs.FlaggedMap.{FlaggedMap}
 use Rattle.kv_model.specs.Kv.{Answered, Answers, FailedRead, FailedWrite, IsCause, Keeps, Kind, KvState, LeadsTo, Mismatched, Ruled, TellsOnly, UnlessFailedWrite, answered, kind_of, may_end, reads, writes}
-use Rattle.kv_model.specs.LogStep.{LogFollows, LogSteps}
+use Rattle.kv_model.specs.LogStep.{LogFollows, LogSteps, SameButOther}
 use Rattle.kv_model.specs.Opening.{Log}
 use Rattle.kv_model.specs.Operations.{Operation}
 use Rattle.kv_model.specs.PlainStep.{plain_checks, plain_rules, plain_step}
@@ -195,7 +195,7 @@ module _ (old mid new : LogView) (ready : IsReady old) (read : HasOnlyRead old m
       → Step (log_in g old.log image) (log_in new.device.geometry new.log left)
   log_now is image left told now =
       let stepped : Step (log_in mid.device.geometry mid.log image) (log_in mid.device.geometry new.log left) =
-      subst (λ (e : Ending). ByEnding e (Step (log_in mid.device.geometry mid.log image) (log_in mid.device.geometry new.log left)) (log_in mid.device.geometry new.log left ≡ log_in mid.device.geometry mid.log image)) is
+      subst (λ (e : Ending). ByEnding e (Step (log_in mid.device.geometry mid.log image) (log_in mid.device.geometry new.log left)) (SameButOther (log_in mid.device.geometry mid.log image) (log_in mid.device.geometry new.log left))) is
       (changes.log_is image (read.device.image ∙ told) left now) in
       subst (λ (x : Log). Step (log_in g old.log image) x) (λ i. log_in (sym changes.runs.kept.geometry i) new.log left)
       (subst (λ (x : Log). Step x (log_in mid.device.geometry new.log left)) (λ i. log_in (read.device.geometry i) (read.log i) image) stepped)
@@ -282,14 +282,15 @@ module _ (old mid new : LogView) (ready : IsReady old) (read : HasOnlyRead old m
   -- ---- a read that failed, or a record that did not match
 
   log_stays : (is : Ending) → ending ≡ is → ((P Q : Type 0) → ByEnding is P Q → Q) → (image left : List ℕ) → old.device.image ≡ Some image → new.device.image ≡ Some left
-      → log_in new.device.geometry new.log left ≡ log_in g old.log image
+      → SameButOther (log_in g old.log image) (log_in new.device.geometry new.log left)
   log_stays is ends second image left told now =
-      let same : log_in mid.device.geometry new.log left ≡ log_in mid.device.geometry mid.log image =
-      second _ _ (subst (λ (e : Ending). ByEnding e (Step (log_in mid.device.geometry mid.log image) (log_in mid.device.geometry new.log left)) (log_in mid.device.geometry new.log left ≡ log_in mid.device.geometry mid.log image)) ends
+      let same : SameButOther (log_in mid.device.geometry mid.log image) (log_in mid.device.geometry new.log left) =
+      second _ _ (subst (λ (e : Ending). ByEnding e (Step (log_in mid.device.geometry mid.log image) (log_in mid.device.geometry new.log left)) (SameButOther (log_in mid.device.geometry mid.log image) (log_in mid.device.geometry new.log left))) ends
       (changes.log_is image (read.device.image ∙ told) left now)) in
-      (λ i. log_in (changes.runs.kept.geometry i) new.log left) ∙ same ∙ (λ i. log_in (read.device.geometry i) (read.log i) image)
+      subst (λ (x : Log). SameButOther (log_in g old.log image) x) (λ i. log_in (sym changes.runs.kept.geometry i) new.log left)
+      (subst (λ (x : Log). SameButOther x (log_in mid.device.geometry new.log left)) (λ i. log_in (read.device.geometry i) (read.log i) image) same)
 
-  state_stays : (set : Option OpenSet) (image left : List ℕ) → log_in new.device.geometry new.log left ≡ log_in g old.log image
+  state_stays : (set : Option OpenSet) (image left : List ℕ) → SameButOther (log_in g old.log image) (log_in new.device.geometry new.log left)
       → state_in new.device.geometry new.log set left ≡ before set image
   state_stays set image left same = λ i. record { primary = map_of (same i).records; rollback = map.empty; open_set = set; iterators = iterators i; next_vector = 1; doubt = None }
 

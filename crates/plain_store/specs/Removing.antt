@@ -7,12 +7,13 @@ use Rattle.kv_model.specs.declared.error.KvError.TheVariants.{InvalidKey, NotFou
 use Rattle.kv_model.specs.FlaggedMap.{FlaggedMap}
 use Rattle.kv_model.specs.Flags.{is_write_once}
 use Rattle.kv_model.specs.Keys.{is_key}
-use Rattle.kv_model.specs.LogStep.{removal}
+use Rattle.kv_model.specs.LogStep.{SameButOther, removal}
 use Rattle.kv_model.specs.Opening.{Log}
 use Rattle.kv_model.specs.PlainStep.{flags_in}
 use Rattle.ram_table.specs.declared.table.Place.{Place}
 use Rattle.tdb_read.specs.Reads.{IsFound, IsReadRefusal, map_in}
 use Rattle.tdb_read.specs.Views.{LogView}
+use Rattle.tdb_write.specs.Changes.{LogStands}
 use Rattle.tdb_write.specs.Copying.{IsRenewed, without}
 use Rattle.tdb_write.specs.Writing.{IsAppended}
 use Rattle.plain_store.specs.Begun.{must_collect}
@@ -49,6 +50,11 @@ remove_refusal active who key = if not (is_key key) then Some InvalidKey else ta
 pub record IsFreeFor (active : Option ActiveSet) (key : List ℕ) : Type 0 where
   pub valid : is_key key ≡ true
   pub free : active ≡ None
+
+-- What readying a remove does to the log: the other area has copies where it has to collect, and nothing is done where
+-- it has not.
+abbrev pub Readies : LogView → List ℕ → Log → Log → Type 0
+Readies v key old new = MatchBool (must_collect v key) (SameButOther old new) (LogStands old new)
 
 -- What a remove does to the log: a collection leaves the key out, or one record takes it out.
 abbrev pub RemovesFrom : LogView → List ℕ → Log → Log → Type 0

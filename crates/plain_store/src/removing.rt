@@ -7,10 +7,10 @@ ghost use Rattle.kv_model.specs.Operations.{Remove, RemoveStart};
 ghost use Rattle.record_core.specs.Endings.{kv_ended};
 ghost use Rattle.tdb_read.specs.Reads.{IsFound};
 ghost use Rattle.tdb_read.specs.Views.{OnlyRead, Ready, view_of};
-ghost use Rattle.tdb_write.specs.Changes.{Changes, IsCopyRefusal, LogStands, unchanged};
+ghost use Rattle.tdb_write.specs.Changes.{Changes, IsCopyRefusal, unchanged};
 ghost use Rattle.tdb_write.specs.Copying.{without};
 ghost use Rattle.plain_store.specs.Begun.{IsRemoveBegun, must_collect};
-ghost use Rattle.plain_store.specs.Removing.{CanRemove, IsFreeFor, IsRemoveRefusal, RemovesFrom, remove_refusal};
+ghost use Rattle.plain_store.specs.Removing.{CanRemove, IsFreeFor, IsRemoveRefusal, Readies, RemovesFrom, remove_refusal};
 ghost use Rattle.plain_store.specs.Moments.{CutsBy};
 ghost use Rattle.plain_store.specs.Stores.{CallsBy, Is};
 
@@ -66,7 +66,7 @@ fn ready_remove<F: Flash>(
     requires found { IsFound (view_of F.state log.old) key.now place }
     requires there { place.found ≡ true }
     ensures changes { Changes (view_of F.state log.old) (view_of F.state log.new) unchanged
-        LogStands (kv_ended result) }
+        (Readies (view_of F.state log.old) key.now) (kv_ended result) }
     ensures refusal { IfErr result
         (IsCopyRefusal (F.state log.old.flash) (F.state log.new.flash)) }
     ensures begun { IfOk result (IsRemoveBegun (view_of F.state log.new) key.now place) }

@@ -3,7 +3,7 @@ use Rattle.std.proofs.Common.{◌≡◌, ℕ, ◌+◌, ◌-◌, ◌*◌, ◌≤�
 use Rattle.std.specs.Prelude.{◌↔◌, Option, Some, None}
 use Rattle.base_core.specs.Sizes.{master_size}
 use Rattle.flash_core.specs.declared.geometry.Geometry.{Geometry}
-use Rattle.flash_core.specs.Images.{IsErased}
+use Rattle.flash_core.specs.Images.{IsErased, part}
 use Rattle.flash_core.specs.Sizes.{area_size}
 use Rattle.kv_model.specs.Constants.{Constants}
 use Rattle.kv_model.specs.FlaggedMap.{FlaggedMap}
@@ -64,4 +64,5 @@ module _ (g h : Geometry) (same : HasSameAreas g h) (image : List ℕ) where
     version = is.version;
     records = is.records;
     clean = subst (λ (a : ℕ). IsTrue log.is_clean ↔ IsErased image is.contents.end ((log.active * a + a) - is.contents.end)) same.area is.clean;
+    other = subst (λ (a : ℕ). log.other ≡ part image ((1 - log.active) * a) a) same.area is.other;
   }

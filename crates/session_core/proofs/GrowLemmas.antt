@@ -137,24 +137,24 @@ module _ (constants : Constants) where
         one_written r same wrote = ap (λ (l : List Write). l ++ records) same ∙ append_assoc log.records (r ∷ []) records
             ∙ ap (λ (l : List Write). log.records ++ (l ++ records)) (sym wrote)
 
-        -- the area and its version stand
-        ends_as : between.active ≡ log.active → between.version ≡ log.version → between.records ++ records ≡ log.records ++ (m.records ++ records) → later ≡ grown between records
+        -- the area and its version stand, and so does the other area
+        ends_as : between.active ≡ log.active → between.version ≡ log.version → between.other ≡ log.other → between.records ++ records ≡ log.records ++ (m.records ++ records) → later ≡ grown between records
             → later ≡ grown log (m.records ++ records)
-        ends_as active version same is = is ∙ (λ i. record { active = active i; version = version i; records = same i; is_clean = true })
+        ends_as active version other same is = is ∙ (λ i. record { active = active i; version = version i; records = same i; is_clean = true; other = other i })
 
         pub grow : later ≡ grown log (m.records ++ records)
         grow = by turn where
           by : Turn constants m log between → later ≡ grown log (m.records ++ records)
           by (Stays after none starts finishes stands) =
               let same = nothing_written (ap (λ (l : Log). l.records) stands) none in
-              ends_as (ap (λ (l : Log). l.active) stands) (ap (λ (l : Log). l.version) stands) same
+              ends_as (ap (λ (l : Log). l.active) stands) (ap (λ (l : Log). l.version) stands) (ap (λ (l : Log). l.other) stands) same
               (rest (omega (arith, whole, starts, finishes, ap one after)) (λ x is. not_removes x (sym after ∙ is))
               (λ is. ap (λ (l : Log). l.is_clean) stands ∙ clean (sym after ∙ is)) (fits_here same))
           by (Feeds x value now_clean set after none starts finishes is) =
               let before : one m.set ≡ 1 = ap one set in
               let now : one m.after ≡ 1 = ap one after in
               let same = nothing_written (ap (λ (l : Log). l.records) is) none in
-              ends_as (ap (λ (l : Log). l.active) is) (ap (λ (l : Log). l.version) is) same
+              ends_as (ap (λ (l : Log). l.active) is) (ap (λ (l : Log). l.version) is) (ap (λ (l : Log). l.other) is) same
               (rest (omega (arith, whole, starts, finishes, before, now))
               (λ y there. subst (λ (z : OpenSet). z.is_remove ≡ false) (some_is (sym after ∙ there)) (not_removes x set))
               (λ gone. no_set after gone) (fits_here same))
@@ -163,7 +163,7 @@ module _ (constants : Constants) where
               let before : m.set ≡ None = none_of_one m.set (omega (arith, whole, few, starts, finishes, now)) in
               let nothing : one m.set ≡ 0 = ap one before in
               let same = nothing_written (ap (λ (l : Log). l.records) stands) none in
-              ends_as (ap (λ (l : Log). l.active) stands) (ap (λ (l : Log). l.version) stands) same
+              ends_as (ap (λ (l : Log). l.active) stands) (ap (λ (l : Log). l.version) stands) (ap (λ (l : Log). l.other) stands) same
               (rest (omega (arith, whole, starts, finishes, now, nothing)) (λ x is. no_set is after)
               (λ gone. ap (λ (l : Log). l.is_clean) stands ∙ clean before) (fits_here same))
           by (Puts r set after wrote starts finishes appends) =
@@ -171,7 +171,7 @@ module _ (constants : Constants) where
               let now : one m.after ≡ 0 = ap one after in
               let is = appends (collects_not log r.key (length r.value) (clean set) (fits_one r wrote)) in
               let same = one_written r (ap (λ (l : Log). l.records) is) wrote in
-              ends_as (ap (λ (l : Log). l.active) is) (ap (λ (l : Log). l.version) is) same
+              ends_as (ap (λ (l : Log). l.active) is) (ap (λ (l : Log). l.version) is) (ap (λ (l : Log). l.other) is) same
               (rest (omega (arith, whole, starts, finishes, before, now)) (λ x there. no_set there after)
               (λ gone. ap (λ (l : Log). l.is_clean) is) (fits_here same))
           by (Begins x set after not_it none starts finishes stands) =
@@ -180,7 +180,7 @@ module _ (constants : Constants) where
               let ends : s + 1 ≡ f = omega (arith, whole, starts, finishes, before) in
               let is = stands (collects_not log x.key x.size (clean set) (fits_later x none (reserved x after ends))) in
               let same = nothing_written (ap (λ (l : Log). l.records) is) none in
-              ends_as (ap (λ (l : Log). l.active) is) (ap (λ (l : Log). l.version) is) same
+              ends_as (ap (λ (l : Log). l.active) is) (ap (λ (l : Log). l.version) is) (ap (λ (l : Log). l.other) is) same
               (rest (omega (arith, ends, now)) (λ y there. subst (λ (z : OpenSet). z.is_remove ≡ false) (some_is (sym after ∙ there)) not_it)
               (λ gone. no_set after gone) (fits_here same))
           by (Ends x set after long wrote starts finishes appends) =
@@ -188,7 +188,7 @@ module _ (constants : Constants) where
               let now : one m.after ≡ 0 = ap one after in
               let is = appends (not_removes x set) in
               let same = one_written (of_set x) (ap (λ (l : Log). l.records) is) wrote in
-              ends_as (ap (λ (l : Log). l.active) is) (ap (λ (l : Log). l.version) is) same
+              ends_as (ap (λ (l : Log). l.active) is) (ap (λ (l : Log). l.version) is) (ap (λ (l : Log). l.other) is) same
               (rest (omega (arith, whole, starts, finishes, before, now)) (λ y there. no_set there after)
               (λ gone. ap (λ (l : Log). l.is_clean) is) (fits_here same))
           by (Resets is after starts finishes) = absurd (omega (arith, is, no_reset))

@@ -11,4 +11,5 @@ pub mod ReplayLemmas
 pub mod RunningLemmas
 pub mod SearchLemmas
 pub mod SettleLemmas
+pub mod StrayLemmas
 pub mod TurnLemmas

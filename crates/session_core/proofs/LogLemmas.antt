@@ -28,6 +28,7 @@ use Rattle.record_core.proofs.MountLemmas.{one_contents}
 use Rattle.plain_store.proofs.CallLemmas.{some_is}
 use Rattle.tdb_mount.specs.Choice.{version_in}
 use Rattle.tdb_mount.specs.Format.{Leaves, LeavesBy}
+use Rattle.tdb_read.specs.States.{other_part}
 use Rattle.session_core.specs.Growing.{GrowsBy, IsTold, LogGoes, LogGoesOn, RunsLog, Told, grown}
 use Rattle.session_core.specs.Power.{HasPower, IsOrdinary, Steady, TellsNoCut}
 use Rattle.session_core.specs.Telling.{HasLog, IsLogIn, TellsLog}
@@ -66,7 +67,8 @@ one_log g image valid a b is_a is_b =
     let clean : a.is_clean ≡ b.is_clean = same_truth a.is_clean b.is_clean
     (λ it. is_b.clean.1 (erased_as image (area_size g) a.active b.active is_a.contents is_b.contents active same (is_a.clean.0 it)))
     (λ it. is_a.clean.1 (erased_as image (area_size g) b.active a.active is_b.contents is_a.contents (sym active) (sym same) (is_b.clean.0 it))) in
-    λ i. record { active = active i; version = version i; records = records i; is_clean = clean i }
+    let other : a.other ≡ b.other = is_a.other ∙ ap (λ (k : ℕ). other_part g k image) active ∙ sym is_b.other in
+    λ i. record { active = active i; version = version i; records = records i; is_clean = clean i; other = other i }
 
 -- a mount leaves the log of an image of which some area is valid
 pub mount_leaves : (g : Geometry) (image left : List ℕ) → IsValid g → Leaves g image left WasDone → (a b : Log) → IsLogIn g image a → IsLogIn g left b → b ≡ a
@@ -154,10 +156,10 @@ module _ (constants : Constants) where
       → All (λ (e : Entry). TellsNoCut e.reply) entries → RunsLog constants old entries new → Turns constants old.state.open_set old.log entries new.log
   turns_of old new [] running ordinary uncut runs = ap (λ (t : Told). t.log) runs
   turns_of old new (e ∷ entries) running ordinary uncut (mid, follows, goes, runs) =
-      let no_read : e.reply ≢ Refused error.ReadFault = (All-head (λ (e : Entry). IsOrdinary e.reply) e entries ordinary).no_read_fault in
+      let answered_so : IsOrdinary e.reply = All-head (λ (e : Entry). IsOrdinary e.reply) e entries ordinary in
       let no_write : e.reply ≢ Refused error.WriteFault = (All-head (λ (e : Entry). TellsNoCut e.reply) e entries uncut).no_write_fault in
-      let one = turned constants old.state old.log mid.log e.who running mid.state e.reply no_read no_write e.call follows goes in
-      let later = turns_of mid new entries (runs_after constants old.state mid.state e.who e.reply running no_read no_write (operation_of e.call) follows)
+      let one = turned constants old.state old.log mid.log e.who running mid.state e.reply answered_so no_write e.call follows goes in
+      let later = turns_of mid new entries (runs_after constants old.state mid.state e.who e.reply running answered_so.no_read_fault no_write (operation_of e.call) follows)
       (All-tail (λ (e : Entry). IsOrdinary e.reply) e entries ordinary) (All-tail (λ (e : Entry). TellsNoCut e.reply) e entries uncut) runs in
       (mid.log, one.turn, subst (λ (set : Option OpenSet). Turns constants set mid.log entries new.log) one.set later)
 

@@ -205,6 +205,7 @@ module _ (chip : ChipState) (log : LogPart) (active : Option ActiveSet) where
             version = is_log.version;
             records = refl;
             clean = is_log.clean;
+            other = refl;
           };
         },
       )

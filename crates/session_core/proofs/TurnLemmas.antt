@@ -28,6 +28,7 @@ use Rattle.kv_model.specs.Write.{Write}
 use Rattle.kv_model.specs.Writes.{set_after, written}
 use Rattle.kv_model.proofs.LimitLemmas.{at_most, is_not, unrefused}
 use Rattle.session_core.specs.Growing.{is_done, is_finish, is_reset, is_start}
+use Rattle.session_core.specs.Power.{IsOrdinary}
 
 -- what an entry shows: the sets that are active before and after, its records, and whether it is a start, a finish or a
 -- reset that was done
@@ -84,27 +85,13 @@ none_is : {X : Type 0} (o : Option X) → is_some o ≡ false → o ≡ None
 none_is None is = refl
 none_is (Some x) is = absurd (false≢true (sym is))
 
--- a refusal that is no failed write
-unfailed : {P : Type 0} (e : KvError) → (Refused e ≢ Refused error.WriteFault) → UnlessFailedWrite (kind_of (Refused e)) P → P
-unfailed error.NotFound other given = given
-unfailed error.InvalidKey other given = given
-unfailed error.InvalidFlags other given = given
-unfailed error.InvalidSize other given = given
-unfailed error.WriteProtected other given = given
-unfailed (error.MediaFull need room) other given = given
-unfailed error.TooManyIterators other given = given
-unfailed error.NoIterator other given = given
-unfailed error.SetOpen other given = given
-unfailed error.NoSet other given = given
-unfailed (error.Busy owner) other given = given
-unfailed error.Stopped other given = given
-unfailed error.ReadFault other given = given
-unfailed error.WriteFault other given = absurd (other refl)
-unfailed (error.Corrupt stored computed) other given = given
-unfailed error.AuthFailed other given = given
-unfailed error.RollbackFailed other given = given
-unfailed error.IvSpent other given = given
-unfailed error.Memory other given = given
+-- a refusal that is no failed read, no failed write and no record that doesn't match leaves the log
+unfailed : (constants : Constants) (old : StoreState) (log later : Log) (op : Operation) (e : KvError) → IsOrdinary (Refused e) → (Refused e ≢ Refused error.WriteFault)
+    → UnlessFailedWrite (kind_of (Refused e)) (LogFollows constants old log later op (Refused e)) → later ≡ log
+unfailed constants old log later op error.ReadFault ordinary other given = absurd (ordinary.no_read_fault refl)
+unfailed constants old log later op error.WriteFault ordinary other given = absurd (other refl)
+unfailed constants old log later op (error.Corrupt stored computed) ordinary other given = absurd (ordinary.no_mismatch stored computed refl)
+unfailed constants old log later op e ordinary other given = given
 
 module _ (constants : Constants) (old : StoreState) (log later : Log) (who : ℕ) where
   -- the set that an outcome leaves is that which the entry shows, and this is what the entry does
@@ -290,35 +277,35 @@ module _ (constants : Constants) (old : StoreState) (log later : Log) (who : ℕ
   -- ---- one entry
 
   abbrev Goal : Call → Operation → Outcome → Type 0
-  Goal asked op outcome = (outcome.reply ≢ Refused error.WriteFault) → Given op outcome → Turned asked outcome
+  Goal asked op outcome = IsOrdinary outcome.reply → (outcome.reply ≢ Refused error.WriteFault) → Given op outcome → Turned asked outcome
 
   by_found : (asked : Call) (op : Operation) → operation_of asked ≡ Some op → (found : Option KvError) → first_refusal (plain_checks constants old who op) ≡ found
       → Goal asked op (refused_or (plain_rules constants) old who op found)
-  by_found asked op asks None passed = λ other given.
+  by_found asked op asks None passed = λ ordinary other given.
       let about : (o : Option Operation) → Type 0 = λ o. MatchOption o (Unit {0}) (λ (op : Operation). first_refusal (plain_checks constants old who op) ≡ None
       → Given op (plain_effect constants old who op) → Turned asked (plain_effect constants old who op)) in
       let here : about (Some op) = subst about asks (done asked) in
       here passed given
-  by_found asked op asks (Some e) passed = λ other given.
+  by_found asked op asks (Some e) passed = λ ordinary other given.
       let about : (o : Option Operation) → Type 0 = λ o. MatchOption o (Unit {0}) (λ (op : Operation). later ≡ log → Turned asked (refuses (after_refusal old op e) e)) in
       let here : about (Some op) = subst about asks (refused asked e) in
-      here (unfailed e other given)
+      here (unfailed constants old log later op e ordinary other given)
 
   by_running : (asked : Call) (op : Operation) → operation_of asked ≡ Some op → (stopped : Bool) → stopped ≡ false
       → Goal asked op (if stopped then refuses old error.Stopped else refused_or (plain_rules constants) old who op (first_refusal (plain_checks constants old who op)))
   by_running asked op asks true is = absurd (false≢true (sym is))
   by_running asked op asks false is = by_found asked op asks (first_refusal (plain_checks constants old who op)) refl
 
-  module _ (running : is_some old.doubt ≡ false) (asked : Call) (outcome : Outcome) (no_read : outcome.reply ≢ Refused error.ReadFault) (no_write : outcome.reply ≢ Refused error.WriteFault) where
+  module _ (running : is_some old.doubt ≡ false) (asked : Call) (outcome : Outcome) (ordinary : IsOrdinary outcome.reply) (no_write : outcome.reply ≢ Refused error.WriteFault) where
     -- a call, which is answered by the rules since no device fails
     ruled : (op : Operation) → Steps (plain_rules constants) old who op outcome → outcome ≡ plain_step constants old who op
     ruled op (inl is) = is
-    ruled op (inr (inl (runs, may, is))) = absurd (no_read (ap (λ (o : Outcome). o.reply) is))
+    ruled op (inr (inl (runs, may, is))) = absurd (ordinary.no_read_fault (ap (λ (o : Outcome). o.reply) is))
     ruled op (inr (inr (runs, may, is))) = absurd (no_write (ap (λ (o : Outcome). o.reply) is))
 
     turned_call : (op : Operation) → operation_of asked ≡ Some op → Steps (plain_rules constants) old who op outcome → Given op outcome → Turned asked outcome
     turned_call op asks steps given =
-        subst (Goal asked op) (sym (ruled op steps)) (by_running asked op asks (is_some old.doubt) running) no_write given
+        subst (Goal asked op) (sym (ruled op steps)) (by_running asked op asks (is_some old.doubt) running) ordinary no_write given
 
   mounted_set : (new : StoreState) (found : Option Doubt) → old.doubt ≡ found → is_some found ≡ false
       → MatchOption found (new ≡ mounted old (maps_of old))
@@ -333,22 +320,22 @@ module _ (constants : Constants) (old : StoreState) (log later : Log) (who : ℕ
       (record { set = mounted_set new old.doubt refl running mounts; turn = Drops refl refl refl refl stands })
 
   -- an entry, which no device made to fail
-  pub turned : is_some old.doubt ≡ false → (new : StoreState) (reply : Reply) → (reply ≢ Refused error.ReadFault) → (reply ≢ Refused error.WriteFault) → (asked : Call)
+  pub turned : is_some old.doubt ≡ false → (new : StoreState) (reply : Reply) → IsOrdinary reply → (reply ≢ Refused error.WriteFault) → (asked : Call)
       → MatchOption (operation_of asked) ((reply ≡ Done) × Mounts (plain_rules constants) old new)
       (λ (op : Operation). Steps (plain_rules constants) old who op (record { state = new; reply = reply }))
       → MatchOption (operation_of asked) (is_some old.doubt ≡ false → later ≡ log) (λ (op : Operation). Given op (record { state = new; reply = reply }))
       → Turned asked (record { state = new; reply = reply })
-  turned running new reply no_read no_write (call.Get key) = turned_call running (call.Get key) (record { state = new; reply = reply }) no_read no_write (Get key) refl
-  turned running new reply no_read no_write (call.Part key offset count) = turned_call running (call.Part key offset count) (record { state = new; reply = reply }) no_read no_write (Part key offset count) refl
-  turned running new reply no_read no_write (call.Info key) = turned_call running (call.Info key) (record { state = new; reply = reply }) no_read no_write (Info key) refl
-  turned running new reply no_read no_write (call.Set key value flags) = turned_call running (call.Set key value flags) (record { state = new; reply = reply }) no_read no_write (Set key value flags.bits) refl
-  turned running new reply no_read no_write (call.Remove key) = turned_call running (call.Remove key) (record { state = new; reply = reply }) no_read no_write (Remove key) refl
-  turned running new reply no_read no_write (call.Start key size flags) = turned_call running (call.Start key size flags) (record { state = new; reply = reply }) no_read no_write (Start key size flags.bits) refl
-  turned running new reply no_read no_write (call.Add value) = turned_call running (call.Add value) (record { state = new; reply = reply }) no_read no_write (Add value) refl
-  turned running new reply no_read no_write call.Finish = turned_call running call.Finish (record { state = new; reply = reply }) no_read no_write Finish refl
-  turned running new reply no_read no_write call.Abort = turned_call running call.Abort (record { state = new; reply = reply }) no_read no_write Abort refl
-  turned running new reply no_read no_write (call.IterOpen n prefix) = turned_call running (call.IterOpen n prefix) (record { state = new; reply = reply }) no_read no_write (OpenIterator n prefix) refl
-  turned running new reply no_read no_write (call.Next n) = turned_call running (call.Next n) (record { state = new; reply = reply }) no_read no_write (Next n) refl
-  turned running new reply no_read no_write (call.IterClose n) = turned_call running (call.IterClose n) (record { state = new; reply = reply }) no_read no_write (CloseIterator n) refl
-  turned running new reply no_read no_write call.Reset = turned_call running call.Reset (record { state = new; reply = reply }) no_read no_write Reset refl
-  turned running new reply no_read no_write call.Mount = λ mounts stands. turned_mount new reply running mounts.0 mounts.1 (stands running)
+  turned running new reply ordinary no_write (call.Get key) = turned_call running (call.Get key) (record { state = new; reply = reply }) ordinary no_write (Get key) refl
+  turned running new reply ordinary no_write (call.Part key offset count) = turned_call running (call.Part key offset count) (record { state = new; reply = reply }) ordinary no_write (Part key offset count) refl
+  turned running new reply ordinary no_write (call.Info key) = turned_call running (call.Info key) (record { state = new; reply = reply }) ordinary no_write (Info key) refl
+  turned running new reply ordinary no_write (call.Set key value flags) = turned_call running (call.Set key value flags) (record { state = new; reply = reply }) ordinary no_write (Set key value flags.bits) refl
+  turned running new reply ordinary no_write (call.Remove key) = turned_call running (call.Remove key) (record { state = new; reply = reply }) ordinary no_write (Remove key) refl
+  turned running new reply ordinary no_write (call.Start key size flags) = turned_call running (call.Start key size flags) (record { state = new; reply = reply }) ordinary no_write (Start key size flags.bits) refl
+  turned running new reply ordinary no_write (call.Add value) = turned_call running (call.Add value) (record { state = new; reply = reply }) ordinary no_write (Add value) refl
+  turned running new reply ordinary no_write call.Finish = turned_call running call.Finish (record { state = new; reply = reply }) ordinary no_write Finish refl
+  turned running new reply ordinary no_write call.Abort = turned_call running call.Abort (record { state = new; reply = reply }) ordinary no_write Abort refl
+  turned running new reply ordinary no_write (call.IterOpen n prefix) = turned_call running (call.IterOpen n prefix) (record { state = new; reply = reply }) ordinary no_write (OpenIterator n prefix) refl
+  turned running new reply ordinary no_write (call.Next n) = turned_call running (call.Next n) (record { state = new; reply = reply }) ordinary no_write (Next n) refl
+  turned running new reply ordinary no_write (call.IterClose n) = turned_call running (call.IterClose n) (record { state = new; reply = reply }) ordinary no_write (CloseIterator n) refl
+  turned running new reply ordinary no_write call.Reset = turned_call running call.Reset (record { state = new; reply = reply }) ordinary no_write Reset refl
+  turned running new reply ordinary no_write call.Mount = λ mounts stands. turned_mount new reply running mounts.0 mounts.1 (stands running)

@@ -15,7 +15,7 @@ use Rattle.kv_model.specs.Rules.{AreRules, Outcome, Rules}
 use Rattle.kv_model.specs.LogStep.{LogFollows}
 use Rattle.kv_model.specs.Kv.{Does, Kind, KvState, LeadsTo, UnlessFailedWrite, answered, kind_of, Ruled}
 use Rattle.kv_model.specs.Performs.{Performs}
-use Rattle.kv_model.proofs.PerformLemmas.{KeepsLog, Reading, get_log, get_reading, part_log, part_reading, step_stays}
+use Rattle.kv_model.proofs.PerformLemmas.{KeepsLog, Reading, get_log, get_reading, log_stands, part_log, part_reading, step_stays}
 use Rattle.shared_kv.specs.Twice.{reads_value}
 
 module _ (rules_by : Constants → Rules) (are_by : (constants : Constants) → AreRules (rules_by constants)) (old new : KvState) (who : ℕ) (reply : Reply) (ruled : kind_of reply ≡ Ruled) where
@@ -35,7 +35,7 @@ module _ (rules_by : Constants → Rules) (are_by : (constants : Constants) → 
         log = λ before is first first_is last last_is.
             let follows : LogFollows constants before first last operation reply =
             subst (λ (k : Kind). UnlessFailedWrite k (LogFollows constants before first last operation reply)) ruled (does.log before is first first_is last last_is) in
-            log.back constants before first last (Refused Memory) (log.to constants before first last reply follows);
+            log_stands operation log constants before first last reply ruled follows;
         cuts = does.cuts;
       }
 

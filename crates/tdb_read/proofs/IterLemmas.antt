@@ -11,6 +11,7 @@ use Rattle.kv_model.specs.Constants.{Constants}
 use Rattle.kv_model.specs.Given.{done_or}
 use Rattle.kv_model.specs.Keys.{is_prefix}
 use Rattle.kv_model.specs.Kv.{Answers, Ruled, answered, kind_of}
+use Rattle.kv_model.proofs.PerformLemmas.{refused_follows}
 use Rattle.kv_model.specs.NextKey.{IsNext, next_key}
 use Rattle.kv_model.specs.Operations.{Next, OpenIterator}
 use Rattle.kv_model.specs.PlainStep.{plain_rules}
@@ -68,7 +69,7 @@ module _ (old : LogView) (iterators : Iterators) (set : Option OpenSet) (who n :
       (start_kind (not (is_prefix prefix)) (has_no_place old.log.iterators who n) x some)
       (λ image told. ap (refused_or (plain_rules constants) (state image) who (OpenIterator n prefix)) some
       ∙ λ i. record { state = state_in old.device.geometry (record old.log { iterators = sym same i }) set image; reply = Refused x })
-      (λ s l. refl))
+      (λ s l. refused_follows constants s l (OpenIterator n prefix) x))
 
   pub open_answer : {T : Type 0} (result : Result T KvError) → OnOk result (refusal ≡ None) → OnOk result (iterators ≡ started old.log.iterators who n prefix)
       → IfErr result (λ error. error ≡ unwrap_or refusal Memory) → OnErr result (iterators ≡ old.log.iterators)

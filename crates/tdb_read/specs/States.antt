@@ -1,9 +1,10 @@
 -- What a mounted log is as a store: its state with the incremental set that is active beside it, its log, and what a
 -- power cut may leave.
-use Rattle.std.specs.Prelude.{◌≡◌, ℕ, List, [], ◌∷◌, Option, Some, None}
+use Rattle.std.specs.Prelude.{◌≡◌, ℕ, ◌-◌, List, [], ◌∷◌, Option, Some, None}
 use Rattle.std.specs.Option.{ForSome, option_map}
 use Rattle.std.specs.FinMap as map
 use Rattle.flash_core.specs.declared.geometry.Geometry.{Geometry}
+use Rattle.flash_core.specs.Images.{part}
 use Rattle.flash_core.specs.Sizes.{area_size}
 use Rattle.flash_core.specs.State.{DeviceCall, FlashState, after_of, before_of}
 use Rattle.kv_model.specs.Constants.{Constants}
@@ -15,6 +16,7 @@ use Rattle.kv_model.specs.Sizes.{room_of}
 use Rattle.kv_model.specs.StoreState.{Maps, OpenSet, StoreState}
 use Rattle.kv_model.specs.Write.{map_of}
 use Rattle.record_core.specs.Chance.{NoChance}
+use Rattle.record_core.specs.Cuts.{base_of}
 use Rattle.record_core.specs.Mounts.{Mounts}
 use Rattle.tdb_read.specs.declared.log.MountedLog.{MountedLog}
 use Rattle.tdb_read.specs.Views.{LogPart, LogView, records_in, view_of}
@@ -33,8 +35,18 @@ state_in g log set image = record {
   doubt = None;
 }
 
+-- the bytes of the area beside the one of this number
+abbrev pub other_part : Geometry → ℕ → List ℕ → List ℕ
+other_part g active image = part image (base_of g (1 - active)) (area_size g)
+
 abbrev pub log_in : Geometry → LogPart → List ℕ → Log
-log_in g log image = record { active = log.active; version = log.version; records = records_in g log image; is_clean = log.is_clean }
+log_in g log image = record {
+  active = log.active;
+  version = log.version;
+  records = records_in g log image;
+  is_clean = log.is_clean;
+  other = other_part g log.active image;
+}
 
 -- no torn record of this moment is there by chance
 abbrev pub IsUnlikely : Geometry → Option DeviceCall → List ℕ → Type 0

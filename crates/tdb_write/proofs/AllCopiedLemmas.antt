@@ -23,7 +23,8 @@ use Rattle.tdb_mount.specs.Keys.{keys_in}
 use Rattle.tdb_mount.specs.Room.{HasRoomFor, area_of}
 use Rattle.tdb_read.specs.Reads.{IsFound, map_in}
 use Rattle.tdb_read.specs.Views.{IsReady, LogPart, LogView, area_in}
-use Rattle.tdb_write.specs.Changes.{Changes, IsCopyRefusal, LogStands, unchanged}
+use Rattle.kv_model.specs.LogStep.{SameButOther}
+use Rattle.tdb_write.specs.Changes.{Changes, IsCopyRefusal, unchanged}
 use Rattle.tdb_write.specs.Copying.{CanComplete, IsFoundCopied, IsPreparedFor}
 use Rattle.tdb_write.proofs.CopiedLemmas.{can_copy, copying, other}
 use Rattle.tdb_write.proofs.FillLemmas.{filled}
@@ -58,9 +59,9 @@ has_filled old device spare es result from to from_is to_is runs cause told copi
 }
 
 module _ {old : LogView} (lawful : IsLawful old.device) (ready : IsReady old) (is_area : IsAreaOf old.device.geometry (other old.device.geometry old.log)) {device : FlashState} (spare : TableState) (work : ℕ) (work_is : work ≡ old.log.work) where
-  pub fill_changes : (es : List Entry) (result : Result ℕ KvError) → HasFilled old device spare es result → Changes old (record { device = device; log = record old.log { spare = spare; work = work } }) unchanged LogStands (kv_ended result)
+  pub fill_changes : (es : List Entry) (result : Result ℕ KvError) → HasFilled old device spare es result → Changes old (record { device = device; log = record old.log { spare = spare; work = work } }) unchanged SameButOther (kv_ended result)
   fill_changes es result fill =
-      subst (λ (w : ℕ). Changes old (record { device = device; log = record old.log { spare = spare; work = w } }) unchanged LogStands (kv_ended result)) (sym work_is)
+      subst (λ (w : ℕ). Changes old (record { device = device; log = record old.log { spare = spare; work = w } }) unchanged SameButOther (kv_ended result)) (sym work_is)
       (filled lawful ready spare fill.room (other old.device.geometry old.log) refl is_area fill.runs)
 
   module _ (es : List Entry) (after : FlaggedMap → FlaggedMap) (fewer : length es ≤ length old.log.table.entries)

@@ -48,12 +48,14 @@ use Rattle.tdb_mount.specs.Room.{AreIn}
 use Rattle.tdb_mount.proofs.PlaceLemmas.{table_this, tells_before}
 use Rattle.tdb_mount.proofs.TableLemmas.{AreIn-changed, length-changed, length-changed_old}
 use Rattle.tdb_read.specs.Reads.{IsFound, IsLocated, map_in}
+use Rattle.tdb_read.specs.States.{other_part}
 use Rattle.tdb_read.specs.Views.{IsLogOf, IsReady, IsSafe, LogPart, area_in, records_in}
 use Rattle.tdb_read.proofs.RecordLemmas.{records_are}
 use Rattle.tdb_read.proofs.TableLemmas.{all_records, told_table}
 use Rattle.tdb_write.specs.Changes.{Changes, IsReserved, LeavesOneOf}
 use Rattle.tdb_write.specs.Writing.{IsAppended, IsWriting}
 use Rattle.tdb_write.proofs.FeedLemmas.{view}
+use Rattle.tdb_write.proofs.OtherLemmas.{other_stays}
 use Rattle.tdb_write.proofs.StayLemmas.{KeysStay, contents, place_stays}
 
 -- the log in memory with a record of this size more
@@ -97,20 +99,23 @@ module _ (g : Geometry) (image : List ℕ) (log : LogPart) (safe : IsSafe g log)
   all_more : AreAllRecords g.prog (put image log.end (spelling_of g.prog r)) (first_place g (area_in g log)) (end_of (area_in g log)) (log.end + extent g.prog r) (records_in g log image ++ r ∷ [])
   all_more = subst (λ (o : Option ℕ). ActiveRecords g now o end (records ++ r ∷ [])) is.active held_more.active
 
+  in_image : log.end + extent g.prog r ≤ length image
+  in_image = omega (arith, fits, area_inside g safe.valid log.active (active_number is.first is.second log.active is.active) image sized)
+
+  torn : Torn log.end (extent g.prog r) image (put image log.end (spelling_of g.prog r))
+  torn =
+      let long : length (spelling_of g.prog r) ≡ extent g.prog r = length-record_bytes g.prog positive r.flags r.key r.value in
+      subst (λ (n : ℕ). Torn log.end n image now) long (Torn-put image log.end (spelling_of g.prog r) (omega (arith, long, in_image)))
+
+  pub other_more : other_part g log.active (put image log.end (spelling_of g.prog r)) ≡ other_part g log.active image
+  other_more = other_stays g safe.valid log.active safe.active image now sized log.end (extent g.prog r) safe.end.inside.from fits torn
+
   module _ (table : TableState) (unit : List ℕ) where
     pub records_more : records_in g (longer log (log.end + extent g.prog r) table unit) (put image log.end (spelling_of g.prog r)) ≡ records_in g log image ++ r ∷ []
     records_more = records_are g.prog positive now (first_place g area) end (records ++ r ∷ []) all_more.each
 
     module _ (place : Place) (hash : ℕ) (is_remove : Bool) (inside : place.at ≤ length log.table.entries) (there : place.found ≡ true → place.at < length log.table.entries) (located : IsLocated g image log r.key place)
         (hash_is : hash ≡ key_hash log.hash_bits r.key) (removes : is_remove ≡ (r.flags == remove_flags)) (entries_are : table.entries ≡ changed log.table.entries place hash log.end is_remove) where
-      in_image : log.end + extent g.prog r ≤ length image
-      in_image = omega (arith, fits, area_inside g safe.valid log.active (active_number is.first is.second log.active is.active) image sized)
-
-      torn : Torn log.end (extent g.prog r) image (put image log.end (spelling_of g.prog r))
-      torn =
-          let long : length (spelling_of g.prog r) ≡ extent g.prog r = length-record_bytes g.prog positive r.flags r.key r.value in
-          subst (λ (n : ℕ). Torn log.end n image now) long (Torn-put image log.end (spelling_of g.prog r) (omega (arith, long, in_image)))
-
       next : IsNext g (put image log.end (spelling_of g.prog r)) (area_in g log) (found_at log.end r) (listed g.prog (first_place g (area_in g log)) (records_in g log image))
       next = record {
         records = records;
@@ -252,6 +257,10 @@ module _ (old new : FlashState) (log : LogPart) (set : Writer) (bytes : List ℕ
       records_left = ap (records_in old.geometry later) (sym left_is)
           ∙ records_more old.geometry image log ready.safe (ready.stands image told) (lawful.sized image told) r writing.holds.placed.key header_is record_fits (erased_here image told) (erased_behind image told) table unit
 
+      other_left : other_part old.geometry log.active left ≡ other_part old.geometry log.active image
+      other_left = ap (other_part old.geometry log.active) (sym left_is)
+          ∙ other_more old.geometry image log ready.safe (ready.stands image told) (lawful.sized image told) r writing.holds.placed.key header_is record_fits (erased_here image told) (erased_behind image told)
+
     sealed_ready : IsReady (view new (longer log (log.end + extent old.geometry.prog (record_of set bytes)) table unit))
     sealed_ready = record {
       safe = subst (λ (h : Geometry). IsSafe h later) (sym same_geometry)
@@ -266,5 +275,11 @@ module _ (old new : FlashState) (log : LogPart) (set : Writer) (bytes : List ℕ
       callers = record { hash_bits = refl; iterators = refl };
       ready = sealed_ready;
       map_is = λ image told left told_left. ap map_of (records_left image left told told_left) ∙ map_of-append (records_in old.geometry log image) r;
-      log_is = λ image told left told_left. λ i. record { active = log.active; version = log.version; records = records_left image left told told_left i; is_clean = true };
+      log_is = λ image told left told_left. λ i. record {
+        active = log.active;
+        version = log.version;
+        records = records_left image left told told_left i;
+        is_clean = true;
+        other = other_left image left told told_left i;
+      };
     })

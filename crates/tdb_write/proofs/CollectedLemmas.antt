@@ -15,7 +15,7 @@ use Rattle.flash_core.proofs.RunLaws.{runs_end, runs_none, runs_weakened}
 use Rattle.kv_model.specs.declared.error.KvError.{KvError}
 use Rattle.kv_model.specs.declared.error.KvError.TheVariants.{Memory, ReadFault, WriteFault}
 use Rattle.kv_model.specs.FlaggedMap.{FlaggedMap}
-use Rattle.kv_model.specs.LogStep.{AreLive, spent}
+use Rattle.kv_model.specs.LogStep.{AreLive, SameButOther, spent}
 use Rattle.kv_model.specs.Opening.{Log}
 use Rattle.kv_model.specs.Sizes.{room_of, used}
 use Rattle.kv_model.specs.Write.{Write, map_of}
@@ -32,7 +32,7 @@ use Rattle.tdb_read.specs.States.{log_in}
 use Rattle.tdb_read.specs.Views.{IsLogOf, IsReady, LogPart, LogView, area_in, records_in}
 use Rattle.tdb_read.proofs.LawLemmas.{log_mounts}
 use Rattle.tdb_read.proofs.TableLemmas.{all_records}
-use Rattle.tdb_write.specs.Changes.{ByEnding, Changes, HasSpaceFor, IsEmptied, LeavesOneOf, LogStands, MakesRoom, unchanged}
+use Rattle.tdb_write.specs.Changes.{ByEnding, Changes, HasSpaceFor, IsEmptied, LeavesOneOf, MakesRoom, unchanged}
 use Rattle.tdb_write.specs.Copying.{HasTurned, IsRenewed, SameButSpare, completed, emptied}
 use Rattle.tdb_write.proofs.JoinLemmas.{callers_then, changes_then}
 use Rattle.tdb_write.proofs.LiveLemmas.{live_spent, records_spent}
@@ -72,7 +72,7 @@ any_step old new First Second after (Err x) e is changes = subst (λ (y : KvErro
   map_is = λ image told left told_left. undone (kv_ending e) (map_in old.device.geometry new.log left ≡ map_in old.device.geometry old.log image) (map_in old.device.geometry new.log left ≡ after (map_in old.device.geometry old.log image)) (Unit {0})
       (no_done e) (changes.map_is image told left told_left);
   log_is = λ image told left told_left. undone (kv_ending e) (First (log_in old.device.geometry old.log image) (log_in old.device.geometry new.log left)) (Second (log_in old.device.geometry old.log image) (log_in old.device.geometry new.log left))
-      (log_in old.device.geometry new.log left ≡ log_in old.device.geometry old.log image) (no_done e) (changes.log_is image told left told_left);
+      (SameButOther (log_in old.device.geometry old.log image) (log_in old.device.geometry new.log left)) (no_done e) (changes.log_is image told left told_left);
 })
 
 -- what a call that was done did, said in other words
@@ -82,7 +82,7 @@ step_more old new First Second after ending implies changes = record {
   callers = changes.callers;
   ready = changes.ready;
   map_is = changes.map_is;
-  log_is = λ image told left told_left. by_more ending (implies (log_in old.device.geometry old.log image) (log_in old.device.geometry new.log left)) (λ (is : log_in old.device.geometry new.log left ≡ log_in old.device.geometry old.log image). is) (changes.log_is image told left told_left);
+  log_is = λ image told left told_left. by_more ending (implies (log_in old.device.geometry old.log image) (log_in old.device.geometry new.log left)) (λ (is : SameButOther (log_in old.device.geometry old.log image) (log_in old.device.geometry new.log left)). is) (changes.log_is image told left told_left);
 }
 
 -- the live records of no key are none
@@ -94,8 +94,16 @@ pub emptied_step : (bits : ℕ) (a b : Log) → IsRenewed bits emptied a b → I
 emptied_step bits a b is = (
   [],
   record { ascend = tt; no_removes = All-nil (λ (r : Write). r.flags ≢ remove_flags); map_is = refl },
-  subst (λ (l : List Write). b ≡ record { active = 1 - a.active; version = (a.version + 1) % 2 ^ 16; records = l ++ []; is_clean = true }) (no_live bits is.0 is.1) is.2,
+  subst (λ (l : List Write). b ≡ record { active = 1 - a.active; version = (a.version + 1) % 2 ^ 16; records = l ++ []; is_clean = true; other = b.other }) (no_live bits is.0 is.1) is.2,
 )
+
+-- what stands but for the other area twice does once
+pub other_twice : (a b c : Log) → SameButOther a b → SameButOther b c → SameButOther a c
+other_twice a b c first second = second ∙ (λ i. record (first i) { other = c.other })
+
+-- a collection sees nothing of the other area
+pub renewed_then : (bits : ℕ) (after : FlaggedMap → FlaggedMap) (a b c : Log) → SameButOther a b → IsRenewed bits after b c → IsRenewed bits after a c
+renewed_then bits after a b c same step = subst (λ (l : Log). IsRenewed bits after l c) same step
 
 -- ---- tables
 
@@ -117,11 +125,12 @@ pub on_ok : {T E P Q : Type 0} (result : Result T E) → (P → Q) → OnOk resu
 on_ok (Ok x) f is = f is
 on_ok (Err e) f is = tt
 
--- ---- a call that leaves the log, and then one
+-- ---- a call that leaves the log, maybe but for the other area, and then one
 
-pub stands_then : (a b c : LogView) (after : FlaggedMap → FlaggedMap) (Step : Log → Log → Type 0) (ending : Ending) → Changes a b unchanged LogStands Done → Changes b c after Step ending → Changes a c after Step ending
-stands_then a b c after Step ending first second = record {
-  runs = changes_then a b c after LogStands Step ending first second;
+pub stands_then : (a b c : LogView) (after : FlaggedMap → FlaggedMap) (First Second Step : Log → Log → Type 0) (ending : Ending) → ((x y : Log) → First x y → SameButOther x y)
+    → ((x y z : Log) → First x y → Second y z → Step x z) → Changes a b unchanged First Done → Changes b c after Second ending → Changes a c after Step ending
+stands_then a b c after First Second Step ending stays joins first second = record {
+  runs = changes_then a b c after First Second ending first second;
   callers = callers_then a b c first.callers second.callers;
   ready = second.ready;
   map_is = λ image told left told_left.
@@ -132,11 +141,15 @@ stands_then a b c after Step ending first second = record {
       (λ none. none) (second.map_is mid.0 mid.1 left told_left);
   log_is = λ image told left told_left.
       let mid = told_after first.runs.kept told in
-      let same : log_in a.device.geometry b.log mid.0 ≡ log_in a.device.geometry a.log image = first.log_is image told mid.0 mid.1 in
+      let before : Log = log_in a.device.geometry a.log image in
+      let between : Log = log_in a.device.geometry b.log mid.0 in
+      let now : Log = log_in a.device.geometry c.log left in
+      let one : First before between = first.log_is image told mid.0 mid.1 in
       by_more ending
-      (λ (is : Step (log_in b.device.geometry b.log mid.0) (log_in b.device.geometry c.log left)). subst (λ (l : Log). Step l (log_in a.device.geometry c.log left)) same
-      (subst (λ (g : Geometry). Step (log_in g b.log mid.0) (log_in g c.log left)) first.runs.kept.geometry is))
-      (λ (is : log_in b.device.geometry c.log left ≡ log_in b.device.geometry b.log mid.0). subst (λ (g : Geometry). log_in g c.log left ≡ log_in g b.log mid.0) first.runs.kept.geometry is ∙ same)
+      (λ (is : Second (log_in b.device.geometry b.log mid.0) (log_in b.device.geometry c.log left)).
+      joins before between now one (subst (λ (g : Geometry). Second (log_in g b.log mid.0) (log_in g c.log left)) first.runs.kept.geometry is))
+      (λ (is : SameButOther (log_in b.device.geometry b.log mid.0) (log_in b.device.geometry c.log left)).
+      other_twice before between now (stays before between one) (subst (λ (g : Geometry). SameButOther (log_in g b.log mid.0) (log_in g c.log left)) first.runs.kept.geometry is))
       (second.log_is mid.0 mid.1 left told_left);
 }
 

@@ -29,7 +29,7 @@ use Rattle.area_log.specs.declared.area.Area.{Area}
 use Rattle.ram_table.specs.declared.table.Place.{Place}
 use Rattle.tdb_mount.specs.Room.{area_of}
 use Rattle.tdb_read.specs.Reads.{IsFound, IsLocated, map_in}
-use Rattle.tdb_read.specs.States.{log_in}
+use Rattle.tdb_read.specs.States.{log_in, other_part}
 use Rattle.tdb_read.specs.Views.{IsLogOf, IsReady, IsSafe, LogPart, LogView, records_in}
 use Rattle.tdb_read.proofs.LawLemmas.{log_mounts}
 use Rattle.tdb_write.specs.Changes.{Changes, KeepsCallers, LeavesOneOf}
@@ -110,6 +110,7 @@ module _ {old : LogView} (lawful : IsLawful old.device) (ready : IsReady old) (e
               version = (old.log.version + 1) % 2 ^ 16;
               records = sym (append-nil (records_in old.device.geometry (completed old.log end) (completed_image old.device.geometry old.log image))) i;
               is_clean = true;
+              other = other_part old.device.geometry (1 - old.log.active) (completed_image old.device.geometry old.log image);
             }),
           );
     }

@@ -30,9 +30,11 @@ use Rattle.inc_set.specs.Sets.{Holds as HoldsBytes, done_size, new_units, payloa
 use Rattle.inc_set.specs.Units.{programmed, programmed_size}
 use Rattle.inc_set.proofs.SetLemmas.{length-programmed, programmed-most, set_fits}
 use Rattle.tdb_read.specs.Reads.{IsLocated, map_in}
+use Rattle.tdb_read.specs.States.{other_part}
 use Rattle.tdb_read.specs.Views.{IsLogOf, IsReady, IsSafe, LogPart, LogView, area_in, records_in}
 use Rattle.tdb_write.specs.Changes.{Changes, KeepsPlaces, LeavesOneOf, unchanged}
 use Rattle.tdb_write.specs.Writing.{IsAtEndOf, IsFed, IsWriting, is_unprogrammed}
+use Rattle.tdb_write.proofs.OtherLemmas.{other_stays}
 use Rattle.tdb_write.proofs.StayLemmas.{contents, located_still, log_stays, records_stay, with_tail}
 use Rattle.tdb_write.proofs.TailLemmas.{tail_of_set}
 
@@ -203,11 +205,21 @@ module _ (old new : FlashState) (log : LogPart) (set : Writer) (before bytes : L
       callers = record { hash_bits = refl; iterators = refl };
       ready = feed_ready;
       map_is = λ image told left told_left. ap map_of (same_records image left told told_left);
-      log_is = λ image told left told_left. λ i. record { active = log.active; version = log.version; records = same_records image left told told_left i; is_clean = clean_is i };
+      log_is = λ image told left told_left. λ i. record {
+        active = log.active;
+        version = log.version;
+        records = same_records image left told told_left i;
+        is_clean = clean_is i;
+        other = same_other image left told told_left i;
+      };
     }
       where
         same_records : (image left : List ℕ) → old.image ≡ Some image → new.image ≡ Some left → records_in old.geometry (with_tail log clean unit) left ≡ records_in old.geometry log image
         same_records image left told told_left = records_stay old.geometry ready.safe.valid image log (ready.stands image told) left (held_left image left told told_left) clean unit
+
+        same_other : (image left : List ℕ) → old.image ≡ Some image → new.image ≡ Some left → other_part old.geometry log.active left ≡ other_part old.geometry log.active image
+        same_other image left told told_left = other_stays old.geometry ready.safe.valid log.active ready.safe.active image left (lawful.sized image told) place (length units)
+            (omega (arith, ready.safe.end.inside.from, writing.at_end.at_end)) (omega (arith, units_within, writing.at_end.inside)) (torn image left told told_left)
 
     pub feed_places : KeepsPlaces (view old log) (view new (with_tail log clean unit))
     feed_places key place found = record {

@@ -31,10 +31,11 @@ use Rattle.tdb_mount.specs.Choice.{version_in}
 use Rattle.tdb_mount.specs.Index.{IsTable, places_of}
 use Rattle.tdb_mount.specs.Room.{HasRoomFor, area_of}
 use Rattle.tdb_read.specs.Reads.{map_in}
-use Rattle.tdb_read.specs.States.{log_in}
+use Rattle.tdb_read.specs.States.{log_in, other_part}
 use Rattle.tdb_read.specs.Views.{IsLogOf, IsReady, IsSafe, LogPart, LogView, area_in, records_in}
 use Rattle.tdb_read.proofs.RecordLemmas.{records_are}
-use Rattle.tdb_write.specs.Changes.{ByEnding, Changes, LeavesOneOf, LogStands, unchanged}
+use Rattle.kv_model.specs.LogStep.{SameButOther}
+use Rattle.tdb_write.specs.Changes.{ByEnding, Changes, LeavesOneOf, unchanged}
 
 -- ---- the two areas
 
@@ -227,7 +228,7 @@ module _ {old : LogView} (lawful : IsLawful old.device) (ready : IsReady old) {d
   unless_ready OutOfMemory stands = ready_left stands
   unless_ready Refused stands = ready_left stands
 
-  pub filled : Changes old filled_view unchanged LogStands ending
+  pub filled : Changes old filled_view unchanged SameButOther ending
   filled = record {
     runs = runs_weakened (LeavesOneOf old unchanged) (λ image told call now fills.
         cut_weakened old.device.geometry (λ left. Mounts old.device.geometry left (map_in old.device.geometry old.log image)) (MountsToOne old.device.geometry (map_in old.device.geometry old.log image) (map_in old.device.geometry old.log image)) (λ left mounts. inl mounts) call now
@@ -245,5 +246,11 @@ module _ {old : LogView} (lawful : IsLawful old.device) (ready : IsReady old) {d
   }
     where
       same_log : (image left : List ℕ) (told : old.device.image ≡ Some image) → FillsArea old.device.geometry (number_of to) image None left
-          → log_in old.device.geometry (record old.log { spare = spare }) left ≡ log_in old.device.geometry old.log image
-      same_log image left told fills i = record { active = old.log.active; version = old.log.version; records = records_left image left told fills i; is_clean = old.log.is_clean }
+          → SameButOther (log_in old.device.geometry old.log image) (log_in old.device.geometry (record old.log { spare = spare }) left)
+      same_log image left told fills i = record {
+        active = old.log.active;
+        version = old.log.version;
+        records = records_left image left told fills i;
+        is_clean = old.log.is_clean;
+        other = other_part old.device.geometry old.log.active left;
+      }

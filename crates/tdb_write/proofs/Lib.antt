@@ -9,6 +9,7 @@ pub mod LiveLemmas
 pub mod MovedLemmas
 pub mod EntryLemmas
 pub mod FillLemmas
+pub mod OtherLemmas
 pub mod CopiedLemmas
 pub mod PreparedLemmas
 pub mod RefusalLemmas

@@ -8,7 +8,7 @@ use Rattle.flash_core.specs.State.{DeviceCall, FlashState}
 use Rattle.kv_model.specs.declared.error.KvError.{KvError}
 use Rattle.kv_model.specs.declared.error.KvError.TheVariants.{MediaFull, WriteFault}
 use Rattle.kv_model.specs.FlaggedMap.{FlaggedMap}
-use Rattle.kv_model.specs.LogStep.{IsCollected, spent}
+use Rattle.kv_model.specs.LogStep.{IsCollected, SameButOther, spent}
 use Rattle.kv_model.specs.Opening.{Log}
 use Rattle.kv_model.specs.Sizes.{room_of, used}
 use Rattle.kv_model.specs.Write.{map_of}
@@ -38,7 +38,8 @@ pub record KeepsCallers (old new : LogPart) : Type 0 where
   pub iterators : new.iterators ≡ old.iterators
 
 -- A call has written. At each moment a power cut leaves the map before it or `after` of that; done, it has the second,
--- and the log has changed so; refused, log and map stand; and after a failed write the image has one of the two maps.
+-- and the log has changed so; refused, map and log stand, but for the bytes of the other area, which a collection may
+-- have used; and after a failed write the image has one of the two maps.
 pub record Changes (old new : LogView) (after : FlaggedMap → FlaggedMap) (Step : Log → Log → Type 0) (ending : Ending) : Type 0 where
   pub runs : RunsBy old.device new.device (LeavesOneOf old after) ending
   pub callers : KeepsCallers old.log new.log
@@ -48,7 +49,7 @@ pub record Changes (old new : LogView) (after : FlaggedMap → FlaggedMap) (Step
   pub log_is : ForSome old.device.image (λ image. ForSome new.device.image (λ left.
       let before : Log = log_in old.device.geometry old.log image in
       let now : Log = log_in old.device.geometry new.log left in
-      ByEnding ending (Step before now) (now ≡ before)))
+      ByEnding ending (Step before now) (SameButOther before now)))
 
 -- a map that stays
 abbrev pub unchanged : FlaggedMap → FlaggedMap

@@ -10,7 +10,8 @@ ghost use Rattle.tdb_mount.specs.Room.{area_of};
 ghost use Rattle.tdb_read.specs.Reads.{IsFound};
 ghost use Rattle.tdb_read.specs.Views.{Ready, view_of};
 ghost use Rattle.kv_model.specs.FlaggedMap.{FlaggedMap};
-ghost use Rattle.tdb_write.specs.Changes.{Changes, IsCopyRefusal, IsEmptied, LogStands, unchanged};
+ghost use Rattle.kv_model.specs.LogStep.{SameButOther};
+ghost use Rattle.tdb_write.specs.Changes.{Changes, IsCopyRefusal, IsEmptied, unchanged};
 ghost use Rattle.tdb_write.specs.Copying.{CanComplete, IsFoundAt, IsFoundCopied, IsPrepared, IsPreparedFor, IsRenewed, SameButSpare, completed, emptied};
 
 use area_collect::{clear, copy_all};
@@ -32,11 +33,11 @@ fn other_area<F: Flash>(log: &MountedLog<F>) -> Area
 }
 
 /// Copies the records that count to the area that isn't active. The answer is where the copies
-/// end. Their places stand in the spare table, and the log stays as it is.
+/// end. Their places stand in the spare table, and of the log nothing else changes.
 pub(crate) fn copy_live<F: Flash>(log: &mut MountedLog<F>) -> Result<u32, KvError>
     requires ready { Ready F.state log.old }
     ensures changes { Changes (view_of F.state log.old) (view_of F.state log.new) unchanged
-        LogStands (kv_ended result) }
+        SameButOther (kv_ended result) }
     ensures refusal { IfErr result
         (IsCopyRefusal (F.state log.old.flash) (F.state log.new.flash)) }
     ensures memory { SameButSpare (view_of F.state log.old).log (view_of F.state log.new).log }
@@ -97,7 +98,7 @@ pub fn copy_without<F: Flash>(log: &mut MountedLog<F>, at: u32) -> Result<u32, K
     requires ready { Ready F.state log.old }
     requires inside { at < length log.old.table.entries }
     ensures changes { Changes (view_of F.state log.old) (view_of F.state log.new) unchanged
-        LogStands (kv_ended result) }
+        SameButOther (kv_ended result) }
     ensures refusal { IfErr result
         (IsCopyRefusal (F.state log.old.flash) (F.state log.new.flash)) }
     ensures memory { SameButSpare (view_of F.state log.old).log (view_of F.state log.new).log }
@@ -123,7 +124,7 @@ pub fn copy_without<F: Flash>(log: &mut MountedLog<F>, at: u32) -> Result<u32, K
 fn clear_other<F: Flash>(log: &mut MountedLog<F>) -> Result<u32, KvError>
     requires ready { Ready F.state log.old }
     ensures changes { Changes (view_of F.state log.old) (view_of F.state log.new) unchanged
-        LogStands (kv_ended result) }
+        SameButOther (kv_ended result) }
     ensures fault { IfErr result (λ e. e ≡ WriteFault) }
     ensures memory { SameButSpare (view_of F.state log.old).log (view_of F.state log.new).log }
     ensures prepared { IfOk result (λ end.

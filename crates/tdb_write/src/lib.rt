@@ -2,7 +2,8 @@
 //! collection.
 //!
 //! Each function takes a mounted log and leaves one. What a power cut leaves at any moment mounts
-//! to the map before the call or to that after it, as far as chance goes.
+//! to the map before the call or to that after it, as far as chance goes. What is told of a log has
+//! the bytes of the area that isn't active too: only copies change them.
 #![tactic(auto)]
 
 mod collect;

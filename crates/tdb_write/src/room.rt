@@ -41,9 +41,9 @@ fn collect_log<F: Flash>(log: &mut MountedLog<F>) -> Result<(), KvError>
 }
 
 /// Makes room for a record of `size` bytes, where the map's records and this one fit in an area: it
-/// collects the log where its tail is dirty or too short, and else does nothing. Keys keep their
-/// places in the table. A device that tells nothing may leave too little; the refusal is then
-/// `Corrupt`, as for a record that does not match.
+/// collects the log where its tail is dirty or too short, and else does nothing, in neither area.
+/// Keys keep their places in the table. A device that tells nothing may leave too little; the
+/// refusal is then `Corrupt`, as for a record that does not match.
 pub fn make_room<F: Flash>(log: &mut MountedLog<F>, size: u32) -> Result<(), KvError>
     requires ready { Ready F.state log.old }
     requires space { HasSpaceFor (view_of F.state log.old) size }

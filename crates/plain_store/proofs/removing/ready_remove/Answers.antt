@@ -1,18 +1,25 @@
 use Rattle.std.proofs.Common.{sym, ◌∙◌, refl}
 use Rattle.tdb_read.specs.Views.{view_of}
-use Rattle.tdb_write.specs.Changes.{LogStands, unchanged}
+use Rattle.kv_model.specs.LogStep.{SameButOther}
+use Rattle.tdb_write.specs.Changes.{unchanged}
 use Rattle.tdb_write.proofs.CollectedLemmas.{any_step}
-use Rattle.plain_store.proofs.FeedLemmas.{nothing_done}
-use Rattle.plain_store.proofs.RemoveLemmas.{copied_begun, uncopied_begun}
+use Rattle.plain_store.specs.Removing.{Readies}
+use Rattle.plain_store.proofs.RemoveLemmas.{copied_begun, readies_copies, readies_none, uncopied_begun}
 use Rattle.plain_store.proofs.removing.ready_remove.Goals as goal
 
 pub returns-then-not-has_to_collect-clause-changes : goal.returns-then-not-has_to_collect-clause-changes
-returns-then-not-has_to_collect-clause-changes g c = nothing_done (view_of g.F.Flash.state c.args.log.now) c.requires.ready
+returns-then-not-has_to_collect-clause-changes g c =
+    readies_none (view_of g.F.Flash.state c.args.log.now) c.requires.ready c.args.key.now (sym c.has_to_collect.ensures ∙ c.if-not-has_to_collect.true)
 
 pub returns-in_err-end-clause-changes : goal.returns-in_err-end-clause-changes
 returns-in_err-end-clause-changes g c =
-    any_step (view_of g.F.Flash.state c.args.log.now) (view_of g.F.Flash.state c.copy_without.new.log) LogStands LogStands unchanged c.from_residual.result c.in_err-end.field-0.0 c.from_residual.ensures.1
+    any_step (view_of g.F.Flash.state c.args.log.now) (view_of g.F.Flash.state c.copy_without.new.log) SameButOther (Readies (view_of g.F.Flash.state c.args.log.now) c.args.key.now) unchanged c.from_residual.result c.in_err-end.field-0.0 c.from_residual.ensures.1
     c.in_err-end.ensures.changes
+
+pub returns-clause-changes : goal.returns-clause-changes
+returns-clause-changes g c =
+    readies_copies (view_of g.F.Flash.state c.args.log.now) (view_of g.F.Flash.state c.copy_without.new.log) c.args.key.now (sym c.has_to_collect.ensures ∙ c.if-not-has_to_collect.false)
+    c.in_ok-end.ensures.changes
 
 pub returns-then-not-has_to_collect-clause-begun : goal.returns-then-not-has_to_collect-clause-begun
 returns-then-not-has_to_collect-clause-begun g c =
