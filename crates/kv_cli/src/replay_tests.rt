@@ -159,21 +159,23 @@ fn line_with(
     Ok(line)
 }
 
+// The front of a line, a piece and how often it stands, the rest, and what is printed.
+const LONG_LINES: [(&str, &str, usize, &str, &[u8]); 4] = [
+    ("1 set ", "x", 128, " 00 -", b"1 1 ok\n"),
+    ("1 set ", "x", 129, " 00 -", b"1 1 error 2 invalid-key\n"),
+    ("1 set k ", "5a", 65_471, " -", b"1 1 ok\n"),
+    (
+        "1 set k ",
+        "5a",
+        65_472,
+        " -",
+        b"1 1 error 6 media-full need 65504 room 65496\n",
+    ),
+];
+
 /// Keys and values of the longest size, and one byte longer.
 fn replays_long_words<R: Abort>(rt: &R, alloc: Global) -> Result<(), Fail> {
-    let cases: [(&str, &str, usize, &str, &[u8]); 4] = [
-        ("1 set ", "x", 128, " 00 -", b"1 1 ok\n"),
-        ("1 set ", "x", 129, " 00 -", b"1 1 error 2 invalid-key\n"),
-        ("1 set k ", "5a", 65_471, " -", b"1 1 ok\n"),
-        (
-            "1 set k ",
-            "5a",
-            65_472,
-            " -",
-            b"1 1 error 6 media-full need 65504 room 65496\n",
-        ),
-    ];
-    for (front, piece, times, back, printed) in cases {
+    for (front, piece, times, back, printed) in LONG_LINES {
         let line = line_with(alloc, front, piece, times, back)?;
         replays(rt, alloc, REPLAY, line.as_bytes(), printed)?;
     }

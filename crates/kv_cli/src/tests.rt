@@ -203,27 +203,28 @@ fn stops<R: Abort>(rt: &R, alloc: Global, case: Case<'_>) -> Result<(usize, bool
     Ok((report.journal.entries().len(), written))
 }
 
+// The words, whether there are a script and an image, the number of the call, and what stands then.
+const FAILING_CALLS: [(&str, bool, bool, u32, (usize, bool)); 7] = [
+    ("", false, false, 1, (0, false)),
+    (REPLAY, true, true, 1, (0, false)),
+    (REPLAY, true, true, 2, (0, false)),
+    (REPLAY, false, true, 2, (0, false)),
+    (REPLAY, true, false, 3, (0, false)),
+    (REPLAY, true, true, 3, (2, false)),
+    (REPLAY, true, true, 4, (2, true)),
+];
+
 #[test]
 fn a_call_of_the_host_that_fails_ends_the_work(rt: HostRuntime) -> Result<(), Fail> {
     let alloc = rt.alloc();
     let erased = vec![in alloc; 0xFFu8; SIZE]?;
     let image: Option<&[u8]> = Some(&erased);
     let script: Option<&[u8]> = Some(b"1 set a 00ff -\n1 get a");
-    // the words, the script, the image, the number of the call, and what stands then
-    let cases: [(&str, Option<&[u8]>, Option<&[u8]>, u32, (usize, bool)); 7] = [
-        ("", None, None, 1, (0, false)),
-        (REPLAY, script, image, 1, (0, false)),
-        (REPLAY, script, image, 2, (0, false)),
-        (REPLAY, None, image, 2, (0, false)),
-        (REPLAY, script, None, 3, (0, false)),
-        (REPLAY, script, image, 3, (2, false)),
-        (REPLAY, script, image, 4, (2, true)),
-    ];
-    for (words, script, image, call, left) in cases {
+    for (words, has_script, has_image, call, left) in FAILING_CALLS {
         let case = Case {
             words,
-            script,
-            image,
+            script: if has_script { script } else { None },
+            image: if has_image { image } else { None },
             failing: &[call],
         };
         assert_eq!(rt; stops(&rt, alloc, case)?, left);
