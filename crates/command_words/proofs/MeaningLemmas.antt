@@ -1,6 +1,6 @@
 -- Words have at most one meaning.
-use Rattle.std.proofs.Common.{◌≡◌, ℕ, ◌^◌, ◌<◌, ◌≤◌, Bool, true, false, List, [], ◌∷◌, Option, Some, None, Ok, refl, sym, ap, subst, ◌∙◌, arith}
-use Rattle.std.specs.Fmt.{decimal}
+use Rattle.std.proofs.Common.{◌≡◌, ℕ, get_or, Bool, true, false, List, [], ◌∷◌, Some, None, refl, sym, ap, subst, ◌∙◌, arith}
+use Rattle.std.specs.Prelude.{codes}
 use Rattle.std.proofs.lemmas.Fmt.{decimal_injective}
 use Rattle.flash_core.specs.declared.geometry.Geometry.{Geometry}
 use Rattle.script_core.specs.declared.line.PowerCut.{PowerCut}
@@ -10,12 +10,14 @@ use Rattle.script_core.specs.Reading.{cut_of}
 use Rattle.script_core.proofs.Cuts.{cut_of-word}
 use Rattle.script_core.proofs.Options.{some_is}
 use Rattle.command_words.specs.declared.option_name.OptionName.TheVariants as option
-use Rattle.command_words.specs.Commands.{Session, Names, Command, Run, Replay, AreNames, AreOf, IsSession, Means, fits_mode}
-use Rattle.command_words.specs.Items.{Item, words_of, values_of}
+use Rattle.command_words.specs.declared.tools.Tool.{Tool}
+use Rattle.command_words.specs.declared.tools.Tool.TheVariants as tool
+use Rattle.command_words.specs.Commands.{Session, Names, OneImage, Drawing, Command, Run, Replay, Use, Generate, AreNames, AreOf, AreOfImage, AreOfDrawing, Means, fits_mode, tool_named, tool_options, tool_word}
+use Rattle.command_words.specs.Items.{Item, items_of, session_options, words_of, values_of}
 use Rattle.command_words.specs.Values.{default_geometry, default_root_key, SpellsNumber, SpellsShort, SpellsGeometry, SpellsRootKey, SpellsHashBits, SpellsSomeCut, Says, SaysGeometry, SaysRootKey, SaysVector, SaysHashBits, SaysCut, IsFlag}
 use Rattle.command_words.proofs.GeometryLemmas.{HasParts, geometry_parts}
 
-abbrev IsOne : {A : Type 0} → (List ℕ → A → Type 0) → Type 0
+abbrev pub IsOne : {A : Type 0} → (List ℕ → A → Type 0) → Type 0
 IsOne {A = A} Spells = (word : List ℕ) (x y : A) → Spells word x → Spells word y → x ≡ y
 
 says_one : {A : Type 0} (Spells : List ℕ → A → Type 0) → IsOne Spells → (default : A) (values : List (List ℕ)) (x y : A)
@@ -27,7 +29,7 @@ says_one Spells one default (word ∷ again ∷ words) x y a b = absurd a
 one_number : IsOne SpellsNumber
 one_number word x y a b = decimal_injective x y a.0 b.0 (sym a.1 ∙ b.1)
 
-one_short : IsOne SpellsShort
+pub one_short : IsOne SpellsShort
 one_short word x y a b = decimal_injective x y (omega arith) (omega arith) (sym a.1 ∙ b.1)
 
 one_hash_bits : IsOne SpellsHashBits
@@ -132,9 +134,98 @@ unfit items s told breaks y h =
     let fits : fits_mode s ≡ true = subst (λ (z : Session). fits_mode z ≡ true) same h.mode in
     absurd (let both = sym fits ∙ breaks in cc)
 
+-- ---- tools
+
+by_word : (t : Tool) → tool_named (tool_word t) ≡ Some t
+by_word tool.Format = refl
+by_word tool.List = refl
+by_word tool.Check = refl
+by_word tool.Dump = refl
+
+other_name : (name : List ℕ) (t : Tool) → tool_named name ≡ None → name ≡ tool_word t → ⊥
+other_name name t none is = absurd (let both = sym (by_word t) ∙ ap tool_named (sym is) ∙ none in cc)
+
+pub tool_is : (word : List ℕ) (t : Tool) (found : Tool) → word ≡ tool_word t → tool_named word ≡ Some found → t ≡ found
+tool_is word t found is named = some_is t found (sym (by_word t) ∙ ap tool_named (sym is) ∙ named)
+
+not_gen : codes "run" ≡ codes "gen" → ⊥
+not_gen same = let first : 114 ≡ 103 = ap (λ (word : List ℕ). get_or word 0 0) same in absurd (omega (arith, first))
+
+same_image : (items : List Item) (x y : OneImage) → AreOfImage items x → AreOfImage items y → x ≡ y
+same_image items x y a b =
+    let both = sym a.file ∙ b.file in
+    let file : x.file ≡ y.file = cc in
+    let geometry = says_one SpellsGeometry one_geometry default_geometry _ x.geometry y.geometry a.geometry b.geometry in
+    let hash_bits = says_one SpellsHashBits one_hash_bits 32 _ x.hash_bits y.hash_bits a.hash_bits b.hash_bits in
+    λ i. record { file = file i; geometry = geometry i; hash_bits = hash_bits i }
+
+same_drawing : (items : List Item) (x y : Drawing) → AreOfDrawing items x → AreOfDrawing items y → x ≡ y
+same_drawing items x y a b =
+    let both = sym a.words ∙ b.words in
+    let seed : x.seed ≡ y.seed = decimal_injective x.seed y.seed (omega (arith, a.seed)) (omega (arith, b.seed)) cc in
+    let clients : x.clients ≡ y.clients = decimal_injective x.clients y.clients (omega (arith, a.clients.1)) (omega (arith, b.clients.1)) cc in
+    let calls : x.calls ≡ y.calls = decimal_injective x.calls y.calls (omega (arith, a.calls.1)) (omega (arith, b.calls.1)) cc in
+    λ i. record { seed = seed i; clients = clients i; calls = calls i }
+
+same_use : (word : List ℕ) (words : List (List ℕ)) (t u : Tool) (x y : OneImage) → Means (word ∷ words) (Use t x) → Means (word ∷ words) (Use u y) → Use t x ≡ Use u y
+same_use word words t u x y h k =
+    let same : t ≡ u = tool_is word t u h.0 (ap tool_named k.0 ∙ by_word u) in
+    let image = same_image _ x y h.1 (subst (λ (z : Tool). AreOfImage (items_of (tool_options z) words) y) (sym same) k.1) in
+    λ i. Use (same i) (image i)
+
 pub one_meaning : (words : List (List ℕ)) (a b : Command) → Means words a → Means words b → a ≡ b
 one_meaning [] a b h k = absurd h
 one_meaning (word ∷ words) (Run x) (Run y) h k = ap (λ (s : Session). Run s) (same_session _ x y h.1 k.1)
-one_meaning (word ∷ words) (Replay x) (Replay y) h k = ap (λ (s : Session). Replay s) (same_session _ x y h.1 k.1)
 one_meaning (word ∷ words) (Run x) (Replay y) h k = absurd cc
+one_meaning (word ∷ words) (Run x) (Use u y) h k = absurd (other_name (codes "run") u refl (sym h.0 ∙ k.0))
+one_meaning (word ∷ words) (Run x) (Generate y) h k = absurd (not_gen (sym h.0 ∙ k.0))
 one_meaning (word ∷ words) (Replay x) (Run y) h k = absurd cc
+one_meaning (word ∷ words) (Replay x) (Replay y) h k = ap (λ (s : Session). Replay s) (same_session _ x y h.1 k.1)
+one_meaning (word ∷ words) (Replay x) (Use u y) h k = absurd (other_name (codes "replay") u refl (sym h.0 ∙ k.0))
+one_meaning (word ∷ words) (Replay x) (Generate y) h k = absurd cc
+one_meaning (word ∷ words) (Use t x) (Run y) h k = absurd (other_name (codes "run") t refl (sym k.0 ∙ h.0))
+one_meaning (word ∷ words) (Use t x) (Replay y) h k = absurd (other_name (codes "replay") t refl (sym k.0 ∙ h.0))
+one_meaning (word ∷ words) (Use t x) (Use u y) h k = same_use word words t u x y h k
+one_meaning (word ∷ words) (Use t x) (Generate y) h k = absurd (other_name (codes "gen") t refl (sym k.0 ∙ h.0))
+one_meaning (word ∷ words) (Generate x) (Run y) h k = absurd (not_gen (sym k.0 ∙ h.0))
+one_meaning (word ∷ words) (Generate x) (Replay y) h k = absurd cc
+one_meaning (word ∷ words) (Generate x) (Use u y) h k = absurd (other_name (codes "gen") u refl (sym h.0 ∙ k.0))
+one_meaning (word ∷ words) (Generate x) (Generate y) h k = ap (λ (d : Drawing). Generate d) (same_drawing _ x y h.1 k.1)
+
+-- ---- words that are no command
+
+abbrev IsNoSession : List (List ℕ) → Type 0
+IsNoSession words = (s : Session) → AreOf (items_of session_options words) s → ⊥
+
+pub no_run : (words : List (List ℕ)) → IsNoSession words → (command : Command) → Means (codes "run" ∷ words) command → ⊥
+no_run words none (Run s) h = none s h.1
+no_run words none (Replay s) h = absurd cc
+no_run words none (Use t i) h = other_name (codes "run") t refl h.0
+no_run words none (Generate d) h = not_gen h.0
+
+pub no_replay : (words : List (List ℕ)) → IsNoSession words → (command : Command) → Means (codes "replay" ∷ words) command → ⊥
+no_replay words none (Run s) h = absurd cc
+no_replay words none (Replay s) h = none s h.1
+no_replay words none (Use t i) h = other_name (codes "replay") t refl h.0
+no_replay words none (Generate d) h = absurd cc
+
+pub no_drawing : (words : List (List ℕ)) → ((d : Drawing) → AreOfDrawing (items_of [] words) d → ⊥) → (command : Command) → Means (codes "gen" ∷ words) command → ⊥
+no_drawing words none (Run s) h = not_gen (sym h.0)
+no_drawing words none (Replay s) h = absurd cc
+no_drawing words none (Use t i) h = other_name (codes "gen") t refl h.0
+no_drawing words none (Generate d) h = none d h.1
+
+-- a word that is none of these names a tool, if anything
+module _ (word : List ℕ) (words : List (List ℕ)) (run : word ≡ codes "run" → ⊥) (replay : word ≡ codes "replay" → ⊥) (gen : word ≡ codes "gen" → ⊥) where
+  pub no_tool : tool_named word ≡ None → (command : Command) → Means (word ∷ words) command → ⊥
+  no_tool none (Run s) h = run h.0
+  no_tool none (Replay s) h = replay h.0
+  no_tool none (Use t i) h = other_name word t none h.0
+  no_tool none (Generate d) h = gen h.0
+
+  pub no_image : (t : Tool) → tool_named word ≡ Some t → ((i : OneImage) → AreOfImage (items_of (tool_options t) words) i → ⊥)
+      → (command : Command) → Means (word ∷ words) command → ⊥
+  no_image t named none (Run s) h = run h.0
+  no_image t named none (Replay s) h = replay h.0
+  no_image t named none (Use u i) h = none i (subst (λ (z : Tool). AreOfImage (items_of (tool_options z) words) i) (tool_is word u t h.0 named) h.1)
+  no_image t named none (Generate d) h = gen h.0

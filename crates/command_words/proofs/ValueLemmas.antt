@@ -1,5 +1,5 @@
--- Options that are given twice, and the three words that name files.
-use Rattle.std.proofs.Common.{◌≡◌, ℕ, ◌≤◌, zero, suc, Bool, true, false, List, [], ◌∷◌, length, Option, Some, None, refl, sym, ap, ◌∙◌, arith}
+-- Options that are given twice, and so many words.
+use Rattle.std.proofs.Common.{◌≡◌, ℕ, ◌≤◌, false, List, [], ◌∷◌, length, Option, Some, None, arith}
 use Rattle.std.specs.Prelude.{slice_get, is_some, MatchOption}
 use denote.Ref.{Bor}
 use Rattle.command_words.specs.Values.{Says}
@@ -13,9 +13,17 @@ pub none_at : (r : Option (Bor (List ℕ))) (words : List (List ℕ)) (n : ℕ) 
 none_at None words n h e = h
 none_at (Some w) words n h e = absurd cc
 
+pub one : (words : List (List ℕ)) (a : List ℕ) → slice_get words 0 ≡ Some a → slice_get words 1 ≡ None → words ≡ a ∷ []
+one [] a p e = absurd cc
+one (x ∷ []) a p e = cc
+one (x ∷ more ∷ words) a p e = absurd cc
+
 pub three : (words : List (List ℕ)) (a b c : List ℕ) → slice_get words 0 ≡ Some a → slice_get words 1 ≡ Some b → slice_get words 2 ≡ Some c → slice_get words 3 ≡ None → words ≡ a ∷ b ∷ c ∷ []
 three [] a b c p q r e = absurd cc
 three (x ∷ []) a b c p q r e = absurd cc
 three (x ∷ y ∷ []) a b c p q r e = absurd cc
 three (x ∷ y ∷ z ∷ []) a b c p q r e = cc
 three (x ∷ y ∷ z ∷ more ∷ words) a b c p q r e = absurd cc
+
+pub three_are : (words : List (List ℕ)) (a b c x y z : List ℕ) → words ≡ a ∷ b ∷ c ∷ [] → a ≡ x → b ≡ y → c ≡ z → words ≡ x ∷ y ∷ z ∷ []
+three_are words a b c x y z are p q r = cc

@@ -1,5 +1,5 @@
 -- What the words behind a command are: options with their values, flags, and other words.
-use Rattle.std.specs.Prelude.{ℕ, Bool, true, false, not, ◌&&◌, ◌==◌, if◌then◌else◌, List, [], ◌∷◌, codes, Option, Some, None}
+use Rattle.std.specs.Prelude.{ℕ, Bool, true, false, not, ◌&&◌, ◌||◌, ◌==◌, if◌then◌else◌, List, [], ◌∷◌, codes, Option, Some, None}
 use Rattle.std.specs.Str.{bytes_eq}
 use Rattle.command_words.specs.declared.option_name.OptionName.{OptionName}
 use Rattle.command_words.specs.declared.option_name.OptionName.TheVariants as option
@@ -29,6 +29,13 @@ abbrev pub session_options : List OptionName
 session_options =
     option.PrimaryGeometry ∷ option.RollbackGeometry ∷ option.RootKey ∷ option.FirstVector
     ∷ option.HashBits ∷ option.Cut ∷ option.Secure ∷ option.ByClient ∷ []
+
+-- of the tools that make or test an image, and of those that show its keys
+abbrev pub image_options : List OptionName
+image_options = option.PrimaryGeometry ∷ []
+
+abbrev pub listing_options : List OptionName
+listing_options = option.PrimaryGeometry ∷ option.HashBits ∷ []
 
 -- the option of these that is written so
 abbrev pub named : List OptionName → List ℕ → Option OptionName
@@ -115,6 +122,11 @@ words_of (item ∷ items) = words_of items
 
 abbrev pub is_option : OptionName → OptionName → Bool
 is_option a b = bytes_eq (option_word a) (option_word b)
+
+-- whether it is one of these
+abbrev pub is_among : List OptionName → OptionName → Bool
+is_among [] wanted = false
+is_among (option ∷ options) wanted = is_option option wanted || is_among options wanted
 
 -- the values that an option is given, in order
 abbrev pub values_of : OptionName → List Item → List (List ℕ)

@@ -10,9 +10,11 @@ use Rattle.command_words.specs.declared.items.Items as declared_items
 use Rattle.command_words.specs.declared.items.Words as declared_words
 use Rattle.command_words.specs.declared.session.Names as declared_names
 use Rattle.command_words.specs.declared.session.Session as declared_session
-use Rattle.command_words.specs.declared.session.Command as declared_command
-use Rattle.command_words.specs.declared.session.Command.TheVariants as command
-use Rattle.command_words.specs.Commands.{Names, Session, Command, Run, Replay}
+use Rattle.command_words.specs.declared.tools.OneImage as declared_image
+use Rattle.command_words.specs.declared.tools.Drawing as declared_drawing
+use Rattle.command_words.specs.declared.command.Command as declared_command
+use Rattle.command_words.specs.declared.command.Command.TheVariants as command
+use Rattle.command_words.specs.Commands.{Names, Session, OneImage, Drawing, Command, Run, Replay, Use, Generate}
 use Rattle.command_words.specs.Items.{Form, Plain, Stated, Awaiting, Unknown, Item, Word, Given, Wrong, items_of}
 
 abbrev pub form_in : declared_form.Form → Form
@@ -57,6 +59,14 @@ session_in s = record {
   by_client = s.by_client;
 }
 
+abbrev pub image_in : declared_image.OneImage → OneImage
+image_in i = record { file = i.file.now; geometry = i.geometry; hash_bits = i.hash_bits }
+
+abbrev pub drawing_in : declared_drawing.Drawing → Drawing
+drawing_in d = record { seed = d.seed; clients = d.clients; calls = d.calls }
+
 abbrev pub command_in : declared_command.Command → Command
 command_in (command.Run session) = Run (session_in session)
 command_in (command.Replay session) = Replay (session_in session)
+command_in (command.Use tool image) = Use tool (image_in image)
+command_in (command.Generate drawing) = Generate (drawing_in drawing)

@@ -1,8 +1,8 @@
 // Laws of the words. Each is a function with nothing to do: its contract is the law.
 ghost use Rattle.std.specs.Prelude.{◌≡◌, ◌≤◌, List, ℕ, [], ◌∷◌, ◌++◌, length, false, IsTrue, codes};
 ghost use Rattle.command_words.specs.declared.option_name.OptionName.{OptionName};
-ghost use Rattle.command_words.specs.Commands.{Command, Replay, Means, plain_session};
-ghost use Rattle.command_words.specs.Items.{Given, Word, option_word, takes_value, is_plain};
+ghost use Rattle.command_words.specs.Commands.{Command, Replay, Means, options_for, plain_session};
+ghost use Rattle.command_words.specs.Items.{Given, Word, is_among, option_word, takes_value, is_plain};
 ghost use Rattle.command_words.specs.Items.{session_options, items_of, all_known, values_of};
 
 /// No words are two commands.
@@ -32,23 +32,25 @@ pub fn options_have_these_forms()
 pub fn options_stand_anywhere()
     ensures on { (name other : List ℕ) (front given back : List (List ℕ)) (option : OptionName)
         (value : List ℕ) (command : Command)
-        → IsTrue (all_known (items_of session_options front))
-        → items_of session_options given ≡ Given option value ∷ [] → IsTrue (is_plain other)
-        → Means (name ∷ (front ++ given ++ other ∷ back)) command
+        → IsTrue (all_known (items_of (options_for command) front))
+        → items_of (options_for command) given ≡ Given option value ∷ []
+        → IsTrue (is_plain other) → Means (name ∷ (front ++ given ++ other ∷ back)) command
         → Means (name ∷ (front ++ other ∷ given ++ back)) command }
     ensures back { (name other : List ℕ) (front given back : List (List ℕ)) (option : OptionName)
         (value : List ℕ) (command : Command)
-        → IsTrue (all_known (items_of session_options front))
-        → items_of session_options given ≡ Given option value ∷ [] → IsTrue (is_plain other)
-        → Means (name ∷ (front ++ other ∷ given ++ back)) command
+        → IsTrue (all_known (items_of (options_for command) front))
+        → items_of (options_for command) given ≡ Given option value ∷ []
+        → IsTrue (is_plain other) → Means (name ∷ (front ++ other ∷ given ++ back)) command
         → Means (name ∷ (front ++ given ++ other ∷ back)) command }
 {}
 
-/// Words in which an option or a flag stands twice mean nothing, and nor do words with `--`.
+/// Words in which an option or a flag of the command stands twice mean nothing, and nor do words
+/// with `--`.
 pub fn wrong_words_mean_nothing()
     ensures twice { (name : List ℕ) (words : List (List ℕ)) (option : OptionName)
-        (command : Command) → Means (name ∷ words) command
-        → length (values_of option (items_of session_options words)) ≤ 1 }
+        (command : Command) → IsTrue (is_among (options_for command) option)
+        → Means (name ∷ words) command
+        → length (values_of option (items_of (options_for command) words)) ≤ 1 }
     ensures dashes { (name : List ℕ) (front back : List (List ℕ)) (command : Command)
         → Means (name ∷ (front ++ codes "--" ∷ back)) command → ⊥ }
 {}

@@ -1,9 +1,9 @@
 // The commands `run` and `replay`.
 ghost use Rattle.std.specs.Prelude.{◌≡◌, IsTrue, map, List};
 ghost use Rattle.std.specs.Rc.{rc_str_bytes};
-ghost use Rattle.command_words.specs.Commands.{AreNames, cuts_primary, IsSession, Means, fits_mode};
-ghost use Rattle.command_words.specs.Items.{session_options, words_of};
-ghost use Rattle.command_words.specs.Shown.{command_in, items_in, names_in, session_in};
+ghost use Rattle.command_words.specs.Commands.{AreNames, AreOf, cuts_primary, fits_mode};
+ghost use Rattle.command_words.specs.Items.{items_of, session_options, words_of};
+ghost use Rattle.command_words.specs.Shown.{items_in, names_in, session_in};
 ghost use Rattle.command_words.specs.Values.{Reads};
 
 use crate::error::WrongWords;
@@ -42,15 +42,6 @@ pub struct Session<'a> {
     pub secure: bool,
     /// Whether the replies are printed client by client.
     pub by_client: bool,
-}
-
-/// What a command line asks for.
-#[derive(Clone, Copy, Debug, PartialEq, Eq)]
-pub enum Command<'a> {
-    /// Serve each client on a thread of its own.
-    Run { session: Session<'a> },
-    /// Make the calls in the order of the script.
-    Replay { session: Session<'a> },
 }
 
 static OPTIONS: [OptionName; 8] = [
@@ -112,8 +103,8 @@ fn fits_mode(session: &Session<'_>) -> bool
     }
 }
 
-fn read_session(words: &[RcStr]) -> Result<Session<'_>, WrongWords>
-    ensures { Reads session_in (IsSession (map rc_str_bytes words.now)) result }
+pub(crate) fn read_session(words: &[RcStr]) -> Result<Session<'_>, WrongWords>
+    ensures { Reads session_in (AreOf (items_of session_options (map rc_str_bytes words.now))) result }
 {
     let words = Words::new(session_options(), words);
     if !words.all_known() {
@@ -134,42 +125,4 @@ fn read_session(words: &[RcStr]) -> Result<Session<'_>, WrongWords>
         return Err(WrongWords);
     }
     Ok(session)
-}
-
-/// The command that the words of a command line are, without the name of the program. The first
-/// word is `run` or `replay`; behind it stand the files PRIMARY, ROLLBACK and SCRIPT in this order,
-/// and options and flags anywhere. It takes no memory.
-///
-/// An option's value is the next word, or follows `=` in the same word. Each option and flag stands
-/// at most once. Numbers are decimal, without a sign and without leading zeros.
-///
-/// | option | value | without it |
-/// |---|---|---|
-/// | `--geom`, `--rgeom` | a valid geometry: program, erase and area units | `8:4096:16` |
-/// | `--root` | 32 hexadecimal digits of either case | the bytes 0 to 15 |
-/// | `--iv` | a number of 64 bits | 1 |
-/// | `--hash-bits` | a number up to 32 | 32 |
-/// | `--cut` | side `p` or `r`, a number from 1 and a pattern, as `p:1:none` | no cut |
-/// | `--secure`, `--by-client` | none, they are flags | not set |
-///
-/// # Errors
-/// `WrongWords` exactly where the words mean no command. That is so for another command, more or
-/// fewer files, an option that stands twice or has no value of its form, and a word that begins
-/// with a dash, isn't a dash alone and is no option, also as a value. Without `--secure` ROLLBACK
-/// has to be `-`, and a cut names `p`; with it ROLLBACK is not `-` and not PRIMARY.
-pub fn read_words(words: &[RcStr]) -> Result<Command<'_>, WrongWords>
-    ensures { Reads command_in (Means (map rc_str_bytes words.now)) result }
-{
-    let [command, words @ ..] = words else {
-        return Err(WrongWords);
-    };
-    match command.as_str() {
-        "run" => Ok(Command::Run {
-            session: read_session(words)?,
-        }),
-        "replay" => Ok(Command::Replay {
-            session: read_session(words)?,
-        }),
-        _ => Err(WrongWords),
-    }
 }

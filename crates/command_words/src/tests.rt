@@ -1,5 +1,5 @@
 //! Tests of command lines, by the rules and the defaults of the program.
-use crate::{Command, Names, Session, WrongWords, read_words};
+use crate::{Command, Drawing, Names, OneImage, Session, Tool, WrongWords, read_words};
 use flash_core::Geometry;
 use kv_model::Pattern;
 use script_core::{PowerCut, Side};
@@ -153,7 +153,61 @@ fn words_that_are_runs(rt: HostRuntime) -> Result<(), Fail> {
     Ok(())
 }
 
-const NO_COMMANDS: [&str; 46] = [
+// A line, its tool, and the image.
+const TOOLS: [(&str, Tool, OneImage<'static>); 7] = [
+    ("format p", Tool::Format, DEFAULT_IMAGE),
+    ("check p", Tool::Check, DEFAULT_IMAGE),
+    ("list p", Tool::List, DEFAULT_IMAGE),
+    ("dump p", Tool::Dump, DEFAULT_IMAGE),
+    ("format --geom 1:64:2 p", Tool::Format, SMALL_IMAGE),
+    ("check p --geom=1:64:2", Tool::Check, SMALL_IMAGE),
+    (
+        "list --hash-bits=4 p --geom 1:64:2",
+        Tool::List,
+        LISTED_IMAGE,
+    ),
+];
+
+const DEFAULT_IMAGE: OneImage<'static> = OneImage {
+    file: "p",
+    geometry: GEOMETRY,
+    hash_bits: 32,
+};
+
+const SMALL_IMAGE: OneImage<'static> = OneImage {
+    file: "p",
+    geometry: SMALL,
+    hash_bits: 32,
+};
+
+const LISTED_IMAGE: OneImage<'static> = OneImage {
+    file: "p",
+    geometry: SMALL,
+    hash_bits: 4,
+};
+
+#[test]
+fn words_that_use_a_tool(rt: HostRuntime) -> Result<(), Fail> {
+    for (line, tool, image) in TOOLS {
+        let words = words_in(rt.alloc(), line)?;
+        assert_eq!(rt; read_words(&words), Ok(Command::Use { tool, image }));
+    }
+    Ok(())
+}
+
+#[test]
+fn words_that_draw_a_script(rt: HostRuntime) -> Result<(), Fail> {
+    let words = words_in(rt.alloc(), "gen 4294967295 16 8192")?;
+    let drawing = Drawing {
+        seed: 4_294_967_295,
+        clients: 16,
+        calls: 8_192,
+    };
+    assert_eq!(rt; read_words(&words), Ok(Command::Generate { drawing }));
+    Ok(())
+}
+
+const NO_COMMANDS: [&str; 63] = [
     "",
     "replay",
     "Replay p - s",
@@ -200,6 +254,23 @@ const NO_COMMANDS: [&str; 46] = [
     "replay p - s --secure",
     "replay p p s --secure",
     "run p - s --cut r:1:none",
+    "format",
+    "format p q",
+    "format p --hash-bits 4",
+    "check p --hash-bits=4",
+    "list p --by-client",
+    "list p --hash-bits 33",
+    "dump p --geom 3:4096:16",
+    "dump p --geom 8:4096:16 --geom=8:4096:16",
+    "dump p --",
+    "List p",
+    "gen 1 1",
+    "gen 1 1 1 1",
+    "gen 4294967296 1 1",
+    "gen 1 0 1",
+    "gen 1 17 1",
+    "gen 1 1 8193",
+    "gen 01 1 1",
 ];
 
 #[test]

@@ -57,7 +57,7 @@ fn parse_number(word: &[u8]) -> Result<u64, WrongWords>
 }
 
 // The same of 32 bits.
-fn parse_short(word: &[u8]) -> Result<u32, WrongWords>
+pub(crate) fn parse_short(word: &[u8]) -> Result<u32, WrongWords>
     ensures { ReadsIt (SpellsShort word.now) result }
 {
     let number = parse_number(word)?;

@@ -11,7 +11,8 @@ use Rattle.flash_core.specs.Sizes.{IsValid}
 use Rattle.script_core.specs.declared.line.PowerCut.{PowerCut}
 use Rattle.script_core.specs.declared.line.Side.{Side}
 use Rattle.script_core.specs.declared.line.Side.TheVariants.{Primary, Rollback}
-use Rattle.command_words.specs.Commands.{Command, Means, Replay, Run, cuts_primary, fits_mode, is_primary}
+use Rattle.command_words.specs.declared.tools.Tool.{Tool}
+use Rattle.command_words.specs.Commands.{Command, Drawing, Generate, Means, OneImage, Replay, Run, Use, cuts_primary, fits_mode, is_primary}
 use Rattle.command_words.specs.Values.{Says, SaysCut, SaysGeometry, SaysHashBits, SpellsSomeCut, default_geometry}
 use Rattle.command_words.proofs.MeaningLemmas.{one_meaning}
 use Rattle.kv_cli.specs.Asked.{Asked, Asks, AsksNothing}
@@ -96,6 +97,12 @@ one_asked words a b first other = replay_is (one_meaning words (Replay a) (Repla
 
 pub runs_threads : (words : List (List ℕ)) (session : Asked) → Means words (Run session) → AsksNothing words
 runs_threads words session means asked asks = let same = one_meaning words (Run session) (Replay asked) means asks.0 in absurd cc
+
+pub uses_tool : (words : List (List ℕ)) (tool : Tool) (image : OneImage) → Means words (Use tool image) → AsksNothing words
+uses_tool words tool image means asked asks = let same = one_meaning words (Use tool image) (Replay asked) means asks.0 in absurd cc
+
+pub draws_script : (words : List (List ℕ)) (drawing : Drawing) → Means words (Generate drawing) → AsksNothing words
+draws_script words drawing means asked asks = let same = one_meaning words (Generate drawing) (Replay asked) means asks.0 in absurd cc
 
 pub has_two_images : (words : List (List ℕ)) (session : Asked) → Means words (Replay session) → session.secure ≡ true → AsksNothing words
 has_two_images words session means secure asked asks =

@@ -12,7 +12,7 @@ use Rattle.session_core.specs.Power.{Power, Steady, Armed}
 abbrev pub Asked : Type 0
 Asked = Session
 
--- A replay over one image. A replay over two, and `run`, are not built.
+-- A replay over one image. A replay over two, `run` and the tools are not built.
 abbrev pub Asks : List (List ℕ) → Asked → Type 0
 Asks words asked = Means words (Replay asked) × (asked.secure ≡ false)
 

@@ -7,7 +7,7 @@ use command_words::{Command, Session as Asked, WrongWords, read_words};
 use std::rc::RcStr;
 
 /// What the words ask for, where they are a replay over one image. They are read by the grammar of
-/// `command_words`; a replay over two images, and `run`, are not built.
+/// `command_words`; a replay over two images, `run` and the tools are not built.
 pub fn asked_by(words: &[RcStr]) -> Option<Asked<'_>>
     ensures { MatchOption result (AsksNothing (map rc_str_bytes words.now))
         (λ asked. Asks (map rc_str_bytes words.now) (asked_in asked)) }
@@ -15,6 +15,8 @@ pub fn asked_by(words: &[RcStr]) -> Option<Asked<'_>>
     match read_words(words) {
         Ok(Command::Replay { session }) => { if session.secure { None } else { Some(session) } }
         Ok(Command::Run { session: _ }) => None,
+        Ok(Command::Use { tool: _, image: _ }) => None,
+        Ok(Command::Generate { drawing: _ }) => None,
         Err(WrongWords) => None,
     }
 }

@@ -1,4 +1,4 @@
-use Rattle.std.proofs.Common.{◌≡◌, List, true, false, map, rules}
+use Rattle.std.proofs.Common.{◌≡◌, List, false, map, rules}
 use Rattle.std.specs.Rc.{rc_str_bytes}
 use Rattle.command_words.specs.Commands.{Session, fits_mode}
 use Rattle.command_words.specs.Items.{Item, items_of, session_options}

@@ -2,7 +2,7 @@ use Rattle.std.proofs.Common.{rules, ℕ, List, Option, None}
 use Rattle.script_core.specs.declared.line.PowerCut.{PowerCut}
 use Rattle.command_words.specs.Items.{values_of}
 use Rattle.command_words.specs.Shown.{items_in}
-use Rattle.command_words.specs.Values.{default_geometry, default_root_key, SpellsSomeCut, Says}
+use Rattle.command_words.specs.Values.{SpellsSomeCut, Says}
 use Rattle.command_words.proofs.ValueLemmas.{twice_says_nothing}
 use Rattle.command_words.proofs.values.cut_of.Goals as goal
 

@@ -1,8 +1,8 @@
-use Rattle.std.proofs.Common.{rules, ℕ, List, Option, None}
+use Rattle.std.proofs.Common.{rules, ℕ, List}
 use Rattle.flash_core.specs.declared.geometry.Geometry.{Geometry}
 use Rattle.command_words.specs.Items.{values_of}
 use Rattle.command_words.specs.Shown.{items_in}
-use Rattle.command_words.specs.Values.{default_geometry, default_root_key, SpellsGeometry, Says}
+use Rattle.command_words.specs.Values.{default_geometry, SpellsGeometry, Says}
 use Rattle.command_words.proofs.ValueLemmas.{twice_says_nothing}
 use Rattle.command_words.proofs.values.geometry_of.Goals as goal
 

@@ -1,4 +1,4 @@
-use Rattle.std.proofs.Common.{◌≡◌, ℕ, List, Some, None, rules, sym, ap, subst}
+use Rattle.std.proofs.Common.{◌≡◌, ℕ, List, Some, None, rules, sym, subst}
 use Rattle.flash_core.specs.declared.geometry.Geometry.{Geometry}
 use Rattle.command_words.specs.Splits.{before, behind}
 use Rattle.command_words.specs.Values.{SpellsShort, SpellsGeometry}

@@ -1,7 +1,7 @@
-use Rattle.std.proofs.Common.{rules, ℕ, List, Option, None}
+use Rattle.std.proofs.Common.{rules, ℕ, List}
 use Rattle.command_words.specs.Items.{values_of}
 use Rattle.command_words.specs.Shown.{items_in}
-use Rattle.command_words.specs.Values.{default_geometry, default_root_key, SpellsRootKey, Says}
+use Rattle.command_words.specs.Values.{default_root_key, SpellsRootKey, Says}
 use Rattle.command_words.proofs.ValueLemmas.{twice_says_nothing}
 use Rattle.command_words.proofs.values.root_key_of.Goals as goal
 
