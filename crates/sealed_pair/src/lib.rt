@@ -32,7 +32,7 @@ pub use opening::Found;
 pub use partial::{PartialSet, SetStart};
 pub use pieces::{add_both, finish_both, start_set};
 pub use removing::remove_both;
-pub use setting::{is_numbered, is_secure, set_both};
+pub use setting::{WholeSet, is_numbered, is_secure, set_both};
 pub use viewing::view_key;
 pub use walking::heal_all;
 pub use writing::reset_both;

@@ -35,6 +35,15 @@ pub struct Tagged {
     pub tag: Option<[u8; 16]>,
 }
 
+/// A set at once: who makes it, the key, and the value and the flags that the key gets.
+#[derive(Clone, Copy)]
+pub struct WholeSet<'a> {
+    pub who: u8,
+    pub key: &'a [u8],
+    pub value: &'a [u8],
+    pub flags: Flags,
+}
+
 fn flags_with(tagged: Option<Tagged>) -> Option<Flags>
     ensures { result ≡ flags_with tagged }
 {
@@ -398,18 +407,22 @@ pub fn set_both<U: Kv, R: Kv>(
     rollback: &mut R,
     root: &[u8; 16],
     number: u64,
-    who: u8,
-    key: &[u8],
-    value: &[u8],
-    flags: Flags,
+    set: WholeSet,
 ) -> Result<(), KvError>
     ensures run { HasRun
         (parts root.now number U.rules_by (U.state primary.old) R.rules_by (R.state rollback.old))
-        (parts root.now (number_left number flags.bits result) U.rules_by (U.state primary.new)
-        R.rules_by (R.state rollback.new))
-        (answered who (Set key.now value.now flags.bits) (done_or result)) }
-    ensures unspent { TakesOne number flags.bits result }
+        (parts root.now (number_left number set.entry.flags.bits result) U.rules_by
+        (U.state primary.new) R.rules_by (R.state rollback.new))
+        (answered set.entry.who (Set set.entry.key.now set.entry.value.now set.entry.flags.bits)
+        (done_or result)) }
+    ensures unspent { TakesOne number set.entry.flags.bits result }
 {
+    let WholeSet {
+        who,
+        key,
+        value,
+        flags,
+    } = set;
     let name = match key_of(key) {
         Ok(name) => name,
         Err(refusal) => return Err(refusal),

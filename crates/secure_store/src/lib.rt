@@ -6,9 +6,15 @@
 #![tactic(auto)]
 
 mod arming;
+#[cfg(test)]
+mod arming_tests;
 mod asking;
 mod calls;
 mod doubt;
+#[cfg(test)]
+mod drawn_model;
+#[cfg(test)]
+mod drawn_tests;
 #[cfg(test)]
 mod image_tests;
 mod incremental;

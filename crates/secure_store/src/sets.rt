@@ -15,7 +15,7 @@ use crate::doubt::in_doubt;
 use crate::stop::Stop;
 use crate::store::SecureStore;
 use kv_model::{Flags, Kv, KvError};
-use sealed_pair::{MAX_SECURE_VALUE, check_free, is_numbered, is_secure, set_both};
+use sealed_pair::{MAX_SECURE_VALUE, WholeSet, check_free, is_numbered, is_secure, set_both};
 
 /// The next number, once a set of these flags took its own.
 pub(crate) fn next_number(flags: Flags, number: u64) -> u64
@@ -78,9 +78,13 @@ impl<U: Kv, R: Kv> SecureStore<U, R> {
         let note = in_doubt(self, who, Asking::Set { key, value, flags });
         let number = self.iv;
         let (primary, rollback) = (&mut self.primary, &mut self.rollback);
-        match set_both(
-            primary, rollback, &self.root, number, who, key, value, flags,
-        ) {
+        let set = WholeSet {
+            who,
+            key,
+            value,
+            flags,
+        };
+        match set_both(primary, rollback, &self.root, number, set) {
             Ok(()) => {
                 self.iv = next_number(flags, number);
                 Ok(())

@@ -12,6 +12,7 @@ use sealed_pair::Active;
 /// A store over two others. Values stand in the primary store as sealed records, authenticated and
 /// where asked enciphered; of keys that are write-once or protected from replay the rollback store
 /// keeps the tag, so that an old primary image is noticed.
+#[derive(Drop)]
 pub struct SecureStore<U: Kv, R: Kv> {
     pub(crate) primary: U,
     pub(crate) rollback: R,
