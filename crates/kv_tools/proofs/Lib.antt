@@ -1,2 +1,9 @@
+pub mod CheckLemmas
 pub mod FormatLemmas
 pub mod GenerateLemmas
+pub mod ListLemmas
+pub mod LiveLemmas
+pub mod MountLemmas
+pub mod OneTextLemmas
+pub mod ReplayLemmas
+pub mod SurveyLemmas
