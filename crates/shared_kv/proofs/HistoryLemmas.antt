@@ -20,7 +20,7 @@ use Rattle.kv_model.proofs.HistoryLemmas.{AreNumbered-push, runs_more}
 use Rattle.base_core.specs.declared.no_memory.NoMemory.{NoMemory}
 use Rattle.journal_core.specs.JournalState.{next_entry}
 use Rattle.shared_kv.specs.Attempts.{IsBusyFor, IsBusyIn}
-use Rattle.shared_kv.specs.Histories.{IsCounted, IsHistory, HasFewFaults, StandsFor, failed_reads, failed_writes, is_busy, is_failed_read, is_failed_write}
+use Rattle.shared_kv.specs.Histories.{AreLed, IsCounted, IsHistory, IsLed, HasFewFaults, StandsFor, failed_reads, failed_writes, is_busy, is_failed_read, is_failed_write}
 use Rattle.std.specs.Option.{ForSome}
 use Rattle.shared_kv.proofs.CountLemmas.{is_counted, not_counted}
 use Rattle.shared_kv.proofs.KindLemmas.{Sorted, busy_stays, no_failed_read, no_failed_write, no_read_of_stopped, reads_counted, sorted, stays_stopped, steps_by, stops, unless_failed, writes_counted}
@@ -47,6 +47,11 @@ by_test : {P : Type 0} (b : Bool) → (b ≡ true → P) → (b ≡ false → P)
 by_test true yes_p no_p = yes_p refl
 by_test false yes_p no_p = no_p refl
 
+led_more : (rules : Rules) (first mid last : StoreState) (entries : List Entry) (entry : Entry) → AreLed rules first entries mid → IsLed rules mid entry last
+    → AreLed rules first (entries ++ entry ∷ []) last
+led_more rules first mid last [] entry led is = (last, subst (λ (s : StoreState). IsLed rules s entry last) led is, refl)
+led_more rules first mid last (e ∷ entries) entry led is = (led.0, led.1, led_more rules led.0 mid last entries entry led.2 is)
+
 -- ---- one call more
 
 module _ (rules_by : Constants → Rules) (old new : KvState) (lawful : IsLawful rules_by old) (opening : Opening) (entries : List Entry) (stands : StandsFor rules_by old.known entries opening) where
@@ -71,6 +76,12 @@ module _ (rules_by : Constants → Rules) (old new : KvState) (lawful : IsLawful
         let there = told_too old.known.state opening.state first stands.tells told in
         let steps = steps_by rules there.0 after who operation reply kind (λ wanted. no_memory (sort.wanted wanted)) (leads there.0 after there.1 later) in
         runs_more rules first there.0 after entries entry (stands.runs first told there.0 there.1) (follows_by rules there.0 after entry operation is steps)
+
+    led : (first after : StoreState) → opening.state ≡ Some first → new.known.state ≡ Some after → AreLed (rules_by opening.constants) first (entries ++ entry ∷ []) after
+    led first after told later =
+        let there = told_too old.known.state opening.state first stands.tells told in
+        led_more (rules_by opening.constants) first there.0 after entries entry (stands.led first told there.0 there.1)
+        (record { operation = operation; is = is; leads = leads there.0 after there.1 later; granted = λ wanted. no_memory (sort.wanted wanted) })
 
     few : HasFewFaults opening (entries ++ entry ∷ [])
     few = record {
@@ -121,6 +132,7 @@ module _ (rules_by : Constants → Rules) (old new : KvState) (lawful : IsLawful
       tells = does.keeps.tells_state ∙ stands.tells;
       numbered = AreNumbered-push [] entries entry stands.numbered (refl, refl, tt);
       runs = λ first told after later. runs first after told later;
+      led = λ first told after later. led first after told later;
       faults = few;
       counted = counted;
       sound = λ sound. does.keeps.sound (stands.sound sound);
@@ -139,6 +151,9 @@ module _ (rules_by : Constants → Rules) (old new : KvState) (lawful : IsLawful
       runs = λ first told after later.
           let there = told_too old.known.state opening.state first stands.tells told in
           subst (Runs (rules_by opening.constants) first entries) (sym (same there.0 after there.1 later)) (stands.runs first told there.0 there.1);
+      led = λ first told after later.
+          let there = told_too old.known.state opening.state first stands.tells told in
+          subst (AreLed (rules_by opening.constants) first entries) (sym (same there.0 after there.1 later)) (stands.led first told there.0 there.1);
       faults = stands.faults;
       counted = record {
         reads = omega (arith, stands.counted.reads, keeps.read_faults);

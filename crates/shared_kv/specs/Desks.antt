@@ -37,6 +37,7 @@ stands_now rules_by now = record {
   tells = refl;
   numbered = tt;
   runs = λ before told after told_too. ([], tt, same_told now.state before after told told_too);
+  led = λ before told after told_too. same_told now.state before after told told_too;
   faults = record { busy = refl; sound = λ sound. (refl, refl); steady = λ steady told. refl };
   counted = record { reads = omega arith; writes = omega arith; stopped = λ some. absurd (omega arith) };
   sound = λ sound. sound;

@@ -1,5 +1,5 @@
 -- What the journal of a shared store is: one legal history from what the store was when it was handed in.
-use Rattle.std.specs.Prelude.{◌≡◌, ℕ, ◌+◌, ◌-◌, ◌<◌, ◌≤◌, ◌^◌, Bool, true, false, min, List, [], is_some, count_by}
+use Rattle.std.specs.Prelude.{◌≡◌, ◌≢◌, ℕ, ◌+◌, ◌-◌, ◌<◌, ◌≤◌, ◌^◌, Bool, true, false, min, List, [], ◌∷◌, Some, is_some, count_by}
 use Rattle.std.specs.Option.{ForSome}
 use Rattle.kv_model.specs.declared.error.KvError.TheVariants.{Busy}
 use Rattle.kv_model.specs.declared.call.Reply.{Reply}
@@ -7,8 +7,9 @@ use Rattle.kv_model.specs.declared.call.Reply.TheVariants.{Refused}
 use Rattle.kv_model.specs.declared.call.Entry.{Entry}
 use Rattle.kv_model.specs.Constants.{Constants}
 use Rattle.kv_model.specs.StoreState.{StoreState}
+use Rattle.kv_model.specs.Operations.{Operation, operation_of}
 use Rattle.kv_model.specs.Rules.{Rules}
-use Rattle.kv_model.specs.Kv.{Kind, kind_of, FailedRead, FailedWrite}
+use Rattle.kv_model.specs.Kv.{Kind, LeadsTo, answered, kind_of, FailedRead, FailedWrite, Wanted}
 use Rattle.kv_model.specs.History.{AreNumbered, IsLegal, Runs}
 use Rattle.kv_model.specs.Opening.{Opening}
 
@@ -51,6 +52,19 @@ pub record IsCounted (opening now : Opening) (entries : List Entry) : Type 0 whe
   pub writes : counted_more opening.write_faults (failed_writes entries) ≤ now.write_faults
   pub stopped : 0 < failed_writes entries → ForSome now.state (λ state. is_some state.doubt ≡ true)
 
+-- An entry follows from a state as its reply tells: by the rules, or by a device that failed. It is no mount, and there
+-- was memory for it.
+pub record IsLed (rules : Rules) (old : StoreState) (entry : Entry) (new : StoreState) : Type 0 where
+  pub operation : Operation
+  pub is : operation_of entry.call ≡ Some operation
+  pub leads : LeadsTo rules old (answered entry.who operation entry.reply) new (kind_of entry.reply)
+  pub granted : kind_of entry.reply ≢ Wanted
+
+-- entries lead from one state to another as their replies tell
+abbrev pub AreLed : Rules → StoreState → List Entry → StoreState → Type 0
+AreLed rules old [] new = new ≡ old
+AreLed rules old (entry ∷ entries) new = (mid : StoreState) × IsLed rules old entry mid × AreLed rules mid entries new
+
 -- What a store is now, with this journal, stems from this opening: the journal leads from the opening's state to the
 -- present one by the step of the opening's constants, where the state is told.
 pub record StandsFor (rules_by : Constants → Rules) (now : Opening) (entries : List Entry) (opening : Opening) : Type 0 where
@@ -59,6 +73,7 @@ pub record StandsFor (rules_by : Constants → Rules) (now : Opening) (entries :
   pub tells : is_some now.state ≡ is_some opening.state
   pub numbered : AreNumbered [] entries
   pub runs : ForSome opening.state (λ before. ForSome now.state (λ after. Runs (rules_by opening.constants) before entries after))
+  pub led : ForSome opening.state (λ before. ForSome now.state (λ after. AreLed (rules_by opening.constants) before entries after))
   pub faults : HasFewFaults opening entries
   pub counted : IsCounted opening now entries
   pub sound : opening.sound ≡ true → now.sound ≡ true
