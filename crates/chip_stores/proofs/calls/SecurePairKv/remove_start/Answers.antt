@@ -1,0 +1,14 @@
+use Rattle.std.proofs.Common.{refl}
+use Rattle.kv_model.specs.Operations.{RemoveStart}
+use Rattle.chip_stores.proofs.CallLemmas.{StoreParts, after_writing}
+use Rattle.chip_stores.proofs.NumberLemmas.{takes_none}
+use Rattle.chip_stores.proofs.calls.SecurePairKv.remove_start.Goals as goal
+
+pub invariant_of-self : goal.invariant_of-self
+invariant_of-self c =
+    let n = c.remove_start.new.self in
+    let now : StoreParts = record { root = n.root; iv = n.iv; active = n.active; stopped = n.stopped; above = n.primary.store; below = n.rollback.store } in
+    let who = c.args.who in
+    let kept = after_writing c.args.self.now now who (RemoveStart c.args.key.now) c.remove_start.result c.remove_start.ensures.answers c.remove_start.ensures.stopped c.remove_start.ensures.stops
+    (takes_none (RemoveStart c.args.key.now) c.args.self.now.store.iv n.iv c.remove_start.result refl c.remove_start.ensures.number) in
+    record { tells = kept.tells; same_root = kept.same_root; number = kept.number }

@@ -1,0 +1,14 @@
+use Rattle.std.proofs.Common.{refl}
+use Rattle.kv_model.specs.Operations.{Set}
+use Rattle.chip_stores.proofs.CallLemmas.{StoreParts, after_writing}
+use Rattle.chip_stores.proofs.NumberLemmas.{takes_by}
+use Rattle.chip_stores.proofs.calls.SecurePairKv.set.Goals as goal
+
+pub invariant_of-self : goal.invariant_of-self
+invariant_of-self c =
+    let n = c.set.new.self in
+    let now : StoreParts = record { root = n.root; iv = n.iv; active = n.active; stopped = n.stopped; above = n.primary.store; below = n.rollback.store } in
+    let who = c.args.who in
+    let kept = after_writing c.args.self.now now who (Set c.args.key.now c.args.value.now c.args.flags.bits) c.set.result c.set.ensures.answers c.set.ensures.stopped c.set.ensures.stops
+    (takes_by (Set c.args.key.now c.args.value.now c.args.flags.bits) c.args.self.now.store.iv n.iv c.args.flags.bits c.set.result refl c.set.ensures.number) in
+    record { tells = kept.tells; same_root = kept.same_root; number = kept.number }

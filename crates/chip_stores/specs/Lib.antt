@@ -1,0 +1,9 @@
+pub mod Arming
+pub mod Chance
+pub mod Chips
+pub mod Healing
+pub mod Laws
+pub mod Mounting
+pub mod PairViews
+pub mod Pairs
+pub mod Stores
